@@ -1,5 +1,7 @@
-// The refusals of document 01's table, each by a name of its own, and its number.
+// The refusals of document 01's table, each by a name of its own, and its number;
+// and the test that a number lies in its range, by which OutOfRange is given.
 ghost use mathlib.Core.Path.{_≡_};
+ghost use Rattle.common.specs.Choice.{within};
 ghost use Rattle.refusals.specs.Numbers.{numberOf};
 
 pub enum Refusal {
@@ -58,4 +60,14 @@ impl Refusal {
             Refusal::WrongNonce => 15,
         }
     }
+}
+
+// Whether `n` is at least `lo` and at most `hi`.
+pub fn in_range(lo: u64, n: u64, hi: u64) -> bool
+    ensures { λ r. ⌜ r ≡ within lo n hi ⌝ }
+{
+    if n < lo {
+        return false;
+    }
+    n <= hi
 }

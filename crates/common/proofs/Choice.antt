@@ -1,0 +1,52 @@
+-- Laws of choices by a test: how to prove something of a choice, and how a choice that equals a value is read. Assumes nothing.
+use Prim.Native.Nat.{ℕ, _≤_, _<_}
+use mathlib.Core.Bool.{Bool, true, false, _&&_}
+use mathlib.Core.Logic.{_⊎_, inl, inr}
+use mathlib.Core.Path.{_≡_, refl, sym}
+use lib.Dec.{leb, ltb, eqb}
+use borrow.Author.Tests.{lt-ltb, le-ltb, le-leb, lt-leb, eq-eqb, ne-eqb, leb-true, leb-false, ltb-true, ltb-false, eqb-true, eqb-false}
+use Rattle.common.specs.Choice.{pick, within}
+
+-- `search tests` closes a return whose contract chooses by the very tests that led there
+pub ruleset tests = (lt-ltb, le-ltb, le-leb, lt-leb, eq-eqb, ne-eqb)
+
+-- what is proved of both ways holds of the choice, and each way may use how the test fell
+pub by-test : {A : Type 0} (P : A → Type 0) (t : Bool) {x y : A} → (t ≡ true → P x) → (t ≡ false → P y) → P (pick t x y)
+by-test P true f g = f refl
+by-test P false f g = g refl
+
+module _ {A : Type 0} (P : A → Type 0) (a b : ℕ) {x y : A} where
+  pub by-leb : (a ≤ b → P x) → (b < a → P y) → P (pick (leb a b) x y)
+  by-leb f g = by-test P (leb a b) (λ e. f (leb-true a b e)) (λ e. g (leb-false a b e))
+
+  pub by-ltb : (a < b → P x) → (b ≤ a → P y) → P (pick (ltb a b) x y)
+  by-ltb f g = by-test P (ltb a b) (λ e. f (ltb-true a b e)) (λ e. g (ltb-false a b e))
+
+  pub by-eqb : (a ≡ b → P x) → ((a ≡ b → ⊥) → P y) → P (pick (eqb a b) x y)
+  by-eqb f g = by-test P (eqb a b) (λ e. f (eqb-true a b e)) (λ e. g (eqb-false a b e))
+
+-- one number is at most another, or above it
+pub le-or-gt : (a b : ℕ) → (a ≤ b) ⊎ (b < a)
+le-or-gt a b = go (leb a b) refl
+  where
+    go : (t : Bool) → leb a b ≡ t → (a ≤ b) ⊎ (b < a)
+    go true e = inl (leb-true a b e)
+    go false e = inr (leb-false a b e)
+
+-- ---- tests joined, and ranges
+
+pub both-true : (s t : Bool) → s && t ≡ true → (s ≡ true) × (t ≡ true)
+both-true true t e = (refl, e)
+both-true false t e = (e, (cc))
+
+pub within-low : (lo n hi : ℕ) → within lo n hi ≡ true → lo ≤ n
+unfolding within
+within-low lo n hi e = leb-true lo n (both-true (leb lo n) (leb n hi) e .0)
+
+pub within-high : (lo n hi : ℕ) → within lo n hi ≡ true → n ≤ hi
+unfolding within
+within-high lo n hi e = leb-true n hi (both-true (leb lo n) (leb n hi) e .1)
+
+pub in-within : (lo n hi : ℕ) → lo ≤ n → n ≤ hi → within lo n hi ≡ true
+unfolding within
+in-within lo n hi l h = simp (le-leb lo n l, le-leb n hi h)

@@ -1,0 +1,4 @@
+pub mod Steps
+pub mod Window
+pub mod Replies
+pub mod Claims
