@@ -1,0 +1,157 @@
+-- The claims of specs/Claims.antt: the round trips, from the laws of the eight bytes, and the lowering, from the laws of the nonce. Assumes nothing.
+use Prim.Native.Nat.{ℕ, _+_, _*_, _/_, _%_, _^_, _≤_, _<_}
+use mathlib.Core.Bool.{true, _&&_}
+use mathlib.Core.List.{List}
+use mathlib.Core.Path.{_≡_, refl, sym, ap, _∙_}
+use native.Mathlib.Omega.{arith}
+use borrow.Author.Tests.{eq-eqb, le-leb, lt-ltb, eqb-true}
+use lib.Dec.{eqb}
+use lib.ListN.{length, getD}
+use Rattle.common.proofs.Choice.{both-true}
+use Rattle.refusals.specs.Reply.{answer, refuse}
+use Rattle.refusals.proofs.ReplyLaws.{passed, answered, same-answer}
+use Rattle.rates.specs.Steps.{topCode}
+use Rattle.options.specs.declared.request.Request.{Request}
+use Rattle.options.specs.declared.response.Response.{Response}
+use Rattle.options.specs.Wire.{optionLength, nonceLimit, fieldsFit, optionBytes, optionWritten, kindIn, lengthIn, highHalf, rateIn, ttlIn, wordOf, nonceIn, reservedIn}
+use Rattle.options.specs.Requests.{isRequest, requestRead, requestWritten, requestRewritten}
+use Rattle.options.specs.Responses.{isResponse, responseRead, responseWritten}
+use Rattle.options.specs.Claims.{Bytes, RequestRoundTrip, ResponseRoundTrip, Lowering}
+use Rattle.options.proofs.WireLaws.{Fit, fit-facts, word-back, word-small, bytes-back}
+use Rattle.options.proofs.NonceLaws as nonces
+
+-- ---- what eight bytes written from fields read back as
+
+request-back : (rate ttl nonce word : ℕ) → rate ≤ topCode → word / 4 ≡ nonce
+    → requestRead (optionBytes 25 rate ttl word) ≡ answer (record { rate = rate; «qs_ttl» = ttl; nonce = nonce })
+unfolding optionBytes isRequest
+request-back rate ttl nonce word r w =
+    let high : rate / 16 ≡ 0 = omega arith in
+    let low : rate % 16 ≡ rate = omega arith in
+    simp (eq-eqb _ _ high, low, word-back 25 rate ttl word, w)
+
+response-back : (rate diff nonce word : ℕ) → rate ≤ topCode → word / 4 ≡ nonce
+    → responseRead (optionBytes 27 rate diff word) ≡ answer (record { rate = rate; «ttl_diff» = diff; nonce = nonce })
+unfolding optionBytes isResponse
+response-back rate diff nonce word r w =
+    let low : rate % 16 ≡ rate = omega arith in
+    simp (low, word-back 27 rate diff word, w)
+
+reserved-back : (kind third fourth word reserved : ℕ) → word % 4 ≡ reserved → reservedIn (optionBytes kind third fourth word) ≡ reserved
+reserved-back kind third fourth word reserved w = ap (λ (k : ℕ). k % 4) (word-back kind third fourth word) ∙ w
+
+-- ---- what an accepted write says
+
+new-option : (kind : ℕ) (old new : List ℕ) (rate fourth nonce : ℕ) → optionWritten kind old rate fourth nonce ≡ answer new
+    → Fit (length old) rate nonce × (new ≡ optionBytes kind rate fourth (nonce * 4))
+new-option kind old new rate fourth nonce e =
+    let a = answered (fieldsFit (length old) rate nonce) new (optionBytes kind rate fourth (nonce * 4)) 7 (sym e) in
+    (fit-facts (length old) rate nonce (a .0), a .1)
+
+changed-option : (old new : List ℕ) (rate ttl nonce : ℕ) → requestRewritten old rate ttl nonce ≡ answer new
+    → Fit (length old) rate nonce × (new ≡ optionBytes 25 rate ttl (nonce * 4 + reservedIn old))
+changed-option old new rate ttl nonce e =
+    let outer = passed (fieldsFit (length old) rate nonce) new _ 7 (sym e) in
+    let inner = answered (isRequest old) new (optionBytes 25 rate ttl (nonce * 4 + reservedIn old)) 4 (outer .1) in
+    (fit-facts (length old) rate nonce (outer .0), inner .1)
+
+-- ---- what an accepted reading says
+
+record RequestIs (option : List ℕ) (r : Request) : Type 0 where
+  len : length option ≡ optionLength
+  kind : kindIn option ≡ 25
+  second : lengthIn option ≡ 8
+  function : highHalf option ≡ 0
+  is-request : isRequest option ≡ true
+  fields : r ≡ record { rate = rateIn option; «qs_ttl» = ttlIn option; nonce = nonceIn option }
+
+request-is : (option : List ℕ) (r : Request) → requestRead option ≡ answer r → RequestIs option r
+unfolding isRequest
+request-is option r e =
+    let outer = passed (eqb (length option) optionLength) r _ 7 (sym e) in
+    let inner = answered (isRequest option) r _ 4 (outer .1) in
+    let tests = both-true (eqb (kindIn option) 25 && eqb (lengthIn option) 8) (eqb (highHalf option) 0) (inner .0) in
+    let first = both-true (eqb (kindIn option) 25) (eqb (lengthIn option) 8) (tests .0) in
+    record {
+      len = eqb-true _ _ (outer .0);
+      kind = eqb-true _ _ (first .0);
+      second = eqb-true _ _ (first .1);
+      function = eqb-true _ _ (tests .1);
+      is-request = inner .0;
+      fields = inner .1;
+    }
+
+record ResponseIs (option : List ℕ) (r : Response) : Type 0 where
+  len : length option ≡ optionLength
+  kind : kindIn option ≡ 27
+  second : lengthIn option ≡ 8
+  fields : r ≡ record { rate = rateIn option; «ttl_diff» = ttlIn option; nonce = nonceIn option }
+
+response-is : (option : List ℕ) (r : Response) → responseRead option ≡ answer r → ResponseIs option r
+unfolding isResponse
+response-is option r e =
+    let outer = passed (eqb (length option) optionLength) r _ 7 (sym e) in
+    let inner = answered (isResponse option) r _ 12 (outer .1) in
+    let tests = both-true (eqb (kindIn option) 27) (eqb (lengthIn option) 8) (inner .0) in
+    record { len = eqb-true _ _ (outer .0); kind = eqb-true _ _ (tests .0); second = eqb-true _ _ (tests .1); fields = inner .1 }
+
+-- ---- read and written again
+
+-- the fields of eight bytes are in range
+own-fit : (option : List ℕ) → length option ≡ optionLength → Bytes option → fieldsFit (length option) (rateIn option) (nonceIn option) ≡ true
+unfolding fieldsFit
+own-fit option len bytes =
+    let word = word-small option bytes in
+    simp (eq-eqb _ _ len, le-leb (rateIn option) topCode (omega arith), lt-ltb (nonceIn option) nonceLimit (omega arith))
+
+-- and written with the reserved bits they have, they are those eight bytes
+own-bytes : (option : List ℕ) (kind word : ℕ) → length option ≡ optionLength → kindIn option ≡ kind → lengthIn option ≡ 8 → highHalf option ≡ 0 → word ≡ wordOf option → Bytes option
+    → optionBytes kind (rateIn option) (ttlIn option) word ≡ option
+own-bytes option kind word len k second high w bytes =
+    let low : rateIn option ≡ getD option 2 0 = omega (arith, bytes 2) in
+    simp (← k, low, w) (bytes-back option len second bytes)
+
+pub requestRoundTrip : RequestRoundTrip
+requestRoundTrip = record {
+  written = λ old new rate ttl nonce e.
+      let n = new-option 25 old new rate ttl nonce e in
+      ap requestRead (n .1) ∙ request-back rate ttl nonce (nonce * 4) (n .0 .code-high) (omega arith);
+  rewritten = λ old new rate ttl nonce e.
+      let n = changed-option old new rate ttl nonce e in
+      ap requestRead (n .1) ∙ request-back rate ttl nonce (nonce * 4 + reservedIn old) (n .0 .code-high) (omega arith);
+  written-reserved = λ old new rate ttl nonce e.
+      ap (λ (l : List ℕ). reservedIn l) (new-option 25 old new rate ttl nonce e .1) ∙ reserved-back 25 rate ttl (nonce * 4) 0 (omega arith);
+  rewritten-reserved = λ old new rate ttl nonce e.
+      ap (λ (l : List ℕ). reservedIn l) (changed-option old new rate ttl nonce e .1)
+      ∙ reserved-back 25 rate ttl (nonce * 4 + reservedIn old) (reservedIn old) (omega arith);
+  again = λ option r bytes e reserved.
+      let i = request-is option r e in
+      rw (i .fields)
+      (simp (own-fit option (i .len) bytes)
+      (ap answer (own-bytes option 25 (nonceIn option * 4) (i .len) (i .kind) (i .second) (i .function) (omega arith) bytes)));
+  kept = λ option r bytes e.
+      let i = request-is option r e in
+      rw (i .fields)
+      (simp (own-fit option (i .len) bytes, i .is-request)
+      (ap answer (own-bytes option 25 (nonceIn option * 4 + reservedIn option) (i .len) (i .kind) (i .second) (i .function) (omega arith) bytes)));
+}
+
+pub responseRoundTrip : ResponseRoundTrip
+unfolding optionBytes
+responseRoundTrip = record {
+  written = λ old new rate diff nonce e.
+      let n = new-option 27 old new rate diff nonce e in
+      ap responseRead (n .1) ∙ response-back rate diff nonce (nonce * 4) (n .0 .code-high) (omega arith);
+  written-reserved = λ old new rate diff nonce e.
+      let n = new-option 27 old new rate diff nonce e in
+      let k = n .0 .code-high in
+      (ap (λ (l : List ℕ). highHalf l) (n .1) ∙ omega arith, ap (λ (l : List ℕ). reservedIn l) (n .1) ∙ reserved-back 27 rate diff (nonce * 4) 0 (omega arith));
+  again = λ option r bytes e high reserved.
+      let i = response-is option r e in
+      rw (i .fields)
+      (simp (own-fit option (i .len) bytes)
+      (ap answer (own-bytes option 27 (nonceIn option * 4) (i .len) (i .kind) (i .second) high (omega arith) bytes)));
+}
+
+pub lowering : Lowering
+lowering = nonces.lowering

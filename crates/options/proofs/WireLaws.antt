@@ -1,0 +1,49 @@
+-- Laws of the eight bytes: what their ranges say, and that what stands in them reads back. Assumes nothing.
+use Prim.Native.Nat.{ℕ, _+_, _*_, _/_, _%_, _^_, _≤_, _<_}
+use mathlib.Core.Bool.{true, _&&_}
+use mathlib.Core.List.{List, [], _∷_}
+use mathlib.Core.Path.{_≡_, refl, sym, ap, _∙_}
+use native.Mathlib.Nat.{div-div-eq-div-mul}
+use native.Mathlib.Omega.{arith}
+use borrow.Author.Tests.{eqb-true, leb-true, ltb-true}
+use lib.Dec.{leb, ltb, eqb}
+use lib.ListN.{length, getD}
+use Rattle.common.proofs.Choice.{both-true}
+use Rattle.common.proofs.Lists.{written-out}
+use Rattle.rates.specs.Steps.{topCode}
+use Rattle.options.specs.Wire.{optionLength, nonceLimit, fieldsFit, optionBytes, kindIn, lengthIn, ttlIn, wordOf}
+use Rattle.options.specs.Claims.{Bytes}
+
+pub record Fit (len code nonce : ℕ) : Type 0 where
+  pub len-is : len ≡ optionLength
+  pub code-high : code ≤ topCode
+  pub nonce-small : nonce < nonceLimit
+
+pub fit-facts : (len code nonce : ℕ) → fieldsFit len code nonce ≡ true → Fit len code nonce
+unfolding fieldsFit
+fit-facts len code nonce e =
+    let outer = both-true (eqb len optionLength && leb code topCode) (ltb nonce nonceLimit) e in
+    let inner = both-true (eqb len optionLength) (leb code topCode) (outer .0) in
+    record { len-is = eqb-true len optionLength (inner .0); code-high = leb-true code topCode (inner .1); nonce-small = ltb-true nonce nonceLimit (outer .1) }
+
+-- the word reads back
+pub word-back : (kind third fourth word : ℕ) → wordOf (optionBytes kind third fourth word) ≡ word
+unfolding wordOf optionBytes
+word-back kind third fourth word = omega arith
+
+-- four bytes make a word, and the word's bytes are those four
+word-bytes : (a b c d : ℕ) → b < 256 → c < 256 → d < 256 → let w = a * 16777216 + b * 65536 + c * 256 + d in
+    (w / 16777216 ≡ a) × (w / 65536 % 256 ≡ b) × (w / 256 % 256 ≡ c) × (w % 256 ≡ d)
+word-bytes a b c d hb hc hd = (omega arith, omega arith, omega arith, omega arith)
+
+pub word-small : (option : List ℕ) → Bytes option → wordOf option < 2 ^ 32
+unfolding wordOf
+word-small option bytes = omega (arith, bytes 4, bytes 5, bytes 6, bytes 7)
+
+-- eight bytes whose second is 8 are what is written of their own fields
+pub bytes-back : (option : List ℕ) → length option ≡ optionLength → lengthIn option ≡ 8 → Bytes option
+    → optionBytes (kindIn option) (getD option 2 0) (ttlIn option) (wordOf option) ≡ option
+unfolding optionBytes wordOf
+bytes-back option len second bytes =
+    let w = word-bytes (getD option 4 0) (getD option 5 0) (getD option 6 0) (getD option 7 0) (bytes 5) (bytes 6) (bytes 7) in
+    simp (w .0, w .1, w .2, w .3, ← second) (sym (written-out 8 option len))

@@ -1,0 +1,96 @@
+// The eight bytes of a Quick-Start request, an option of the IPv4 header, and of a Quick-Start
+// response, an option of the TCP header; and the nonce that both carry.
+ghost use mathlib.Core.Path.{_≡_};
+ghost use Prim.Native.Nat.{_<_};
+ghost use lib.ListN.{length, getD};
+ghost use Rattle.options.specs.Wire.{optionLength, wordOf, optionBytes, optionWritten, fieldsFit};
+ghost use Rattle.options.specs.Replies.{writtenTold};
+ghost use Rattle.refusals.specs.Reply.{leaves, done};
+use rates::TOP_CODE;
+use refusals::Refusal;
+
+pub mod nonce;
+pub mod request;
+pub mod response;
+
+// The length of both options, which is their length byte too.
+pub const OPTION_LENGTH: usize = 8;
+// 2^30: a nonce has 30 bits.
+pub const NONCE_LIMIT: u32 = 1_073_741_824;
+
+// Where the fields stand. The nonce's word takes the last four bytes, high byte first.
+const KIND: usize = 0;
+
+const LENGTH: usize = 1;
+
+const RATE: usize = 2;
+
+const TTL: usize = 3;
+
+const WORD: usize = 4;
+
+// What writing an option answers.
+pub enum Written {
+    Done,
+    Refused(Refusal),
+}
+
+// The byte at a place of an option, as a wider number.
+fn byte_at(option: &[u8], at: usize) -> u32
+    requires { ⌜ at < length (now option) ⌝ }
+    ensures { λ r. ⌜ (r ≡ getD (now (option .entry)) at 0) × (r < 256) ⌝ }
+{
+    option[at] as u32
+}
+
+// Whether an option with this rate code and nonce can be written into a buffer of this length.
+fn fields_fit(len: usize, code: u32, nonce: u32) -> bool
+    ensures { λ r. ⌜ r ≡ fieldsFit len code nonce ⌝ }
+{
+    if len != OPTION_LENGTH {
+        return false;
+    }
+    if code > TOP_CODE {
+        return false;
+    }
+    nonce < NONCE_LIMIT
+}
+
+// The word of the last four bytes: the nonce above two reserved bits.
+fn word_of(option: &[u8]) -> u32
+    requires { ⌜ length (now option) ≡ optionLength ⌝ }
+    ensures { λ r. ⌜ r ≡ wordOf (now (option .entry)) ⌝ }
+{
+    let a = byte_at(option, WORD);
+    let b = byte_at(option, WORD + 1);
+    let c = byte_at(option, WORD + 2);
+    let d = byte_at(option, WORD + 3);
+    a * 16_777_216 + b * 65_536 + c * 256 + d
+}
+
+// Writes all eight bytes.
+fn put(option: &mut [u8], kind: u8, third: u8, fourth: u8, word: u32)
+    requires { ⌜ length (now option) ≡ optionLength ⌝ }
+    ensures { λ _. ⌜ now (option .exit) ≡ optionBytes kind third fourth word ⌝ }
+{
+    option[KIND] = kind;
+    option[LENGTH] = OPTION_LENGTH as u8;
+    option[RATE] = third;
+    option[TTL] = fourth;
+    option[WORD] = (word / 16_777_216) as u8;
+    option[WORD + 1] = (word / 65_536 % 256) as u8;
+    option[WORD + 2] = (word / 256 % 256) as u8;
+    option[WORD + 3] = (word % 256) as u8;
+}
+
+// Writes an option anew into a buffer of exactly eight bytes, with the reserved bits 0.
+fn write_option(option: &mut [u8], kind: u8, rate: u32, fourth: u8, nonce: u32) -> Written
+    ensures answer { λ r. ⌜ writtenTold r ≡ done (optionWritten kind (now (option .entry)) rate fourth nonce) ⌝ }
+    ensures buffer { λ _. ⌜ now (option .exit) ≡ leaves (now (option .entry)) (optionWritten kind (now (option .entry)) rate fourth nonce) ⌝ }
+{
+    if !fields_fit(option.len(), rate, nonce) {
+        return Written::Refused(Refusal::OutOfRange);
+    }
+    put(option, kind, rate as u8, fourth, nonce * 4);
+    Written::Done
+}

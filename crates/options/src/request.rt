@@ -1,0 +1,89 @@
+// A Quick-Start request in the IPv4 header: type 25, length 8, function 0 and rate code, QS TTL,
+// and the nonce's word.
+ghost use mathlib.Core.Path.{_≡_};
+ghost use lib.ListN.{length};
+ghost use Rattle.options.specs.Requests.{isRequest, requestRead, requestWritten, requestRewritten};
+ghost use Rattle.options.specs.Replies.{requestTold, writtenTold};
+ghost use Rattle.options.specs.Wire.{optionLength};
+ghost use Rattle.refusals.specs.Reply.{leaves, done};
+use crate::KIND;
+use crate::LENGTH;
+use crate::OPTION_LENGTH;
+use crate::RATE;
+use crate::TTL;
+use crate::Written;
+use crate::byte_at;
+use crate::fields_fit;
+use crate::put;
+use crate::word_of;
+use crate::write_option;
+use refusals::Refusal;
+
+// The option's type.
+const REQUEST: u8 = 25;
+
+pub struct Request {
+    pub rate: u32,
+    pub qs_ttl: u8,
+    pub nonce: u32,
+}
+
+pub enum Reading {
+    Request(Request),
+    Refused(Refusal),
+}
+
+// Whether eight bytes are a request: its type, its length, and 0 in the high half of the rate's byte.
+fn is_request(option: &[u8]) -> bool
+    requires { ⌜ length (now option) ≡ optionLength ⌝ }
+    ensures { λ r. ⌜ r ≡ isRequest (now (option .entry)) ⌝ }
+{
+    if option[KIND] != REQUEST {
+        return false;
+    }
+    if option[LENGTH] != OPTION_LENGTH as u8 {
+        return false;
+    }
+    option[RATE] / 16 == 0
+}
+
+// Reads a request from a buffer of exactly eight bytes. The reserved bits are ignored.
+pub fn read(option: &[u8]) -> Reading
+    ensures { λ r. ⌜ requestTold r ≡ requestRead (now (option .entry)) ⌝ }
+{
+    if option.len() != OPTION_LENGTH {
+        return Reading::Refused(Refusal::OutOfRange);
+    }
+    if !is_request(option) {
+        return Reading::Refused(Refusal::NoRequest);
+    }
+    Reading::Request(Request {
+        rate: byte_at(option, RATE) % 16,
+        qs_ttl: option[TTL],
+        nonce: word_of(option) / 4,
+    })
+}
+
+// Writes a request into a buffer of exactly eight bytes, with the reserved bits 0.
+pub fn write(option: &mut [u8], rate: u32, qs_ttl: u8, nonce: u32) -> Written
+    ensures answer { λ r. ⌜ writtenTold r ≡ done (requestWritten (now (option .entry)) rate «qs_ttl» nonce) ⌝ }
+    ensures buffer { λ _. ⌜ now (option .exit) ≡ leaves (now (option .entry)) (requestWritten (now (option .entry)) rate «qs_ttl» nonce) ⌝ }
+{
+    write_option(option, REQUEST, rate, qs_ttl, nonce)
+}
+
+// Writes another rate, QS TTL and nonce into a request in place. The reserved bits stay as they came.
+pub fn rewrite(option: &mut [u8], rate: u32, qs_ttl: u8, nonce: u32) -> Written
+    ensures answer { λ r. ⌜ writtenTold r ≡ done (requestRewritten (now (option .entry)) rate «qs_ttl» nonce) ⌝ }
+    ensures buffer { λ _. ⌜ now (option .exit) ≡ leaves (now (option .entry)) (requestRewritten (now (option .entry)) rate «qs_ttl» nonce) ⌝ }
+{
+    if !fields_fit(option.len(), rate, nonce) {
+        return Written::Refused(Refusal::OutOfRange);
+    }
+    if !is_request(option) {
+        return Written::Refused(Refusal::NoRequest);
+    }
+    let reserved = word_of(option) % 4;
+    put(option, REQUEST, rate as u8, qs_ttl, nonce * 4 + reserved);
+    Written::Done
+}

@@ -1,0 +1,68 @@
+// A Quick-Start response in the TCP header: kind 27, length 8, rate code under four reserved bits,
+// TTL Diff, and the nonce's word.
+ghost use mathlib.Core.Path.{_≡_};
+ghost use lib.ListN.{length};
+ghost use Rattle.options.specs.Responses.{isResponse, responseRead, responseWritten};
+ghost use Rattle.options.specs.Replies.{responseTold, writtenTold};
+ghost use Rattle.options.specs.Wire.{optionLength};
+ghost use Rattle.refusals.specs.Reply.{leaves, done};
+use crate::KIND;
+use crate::LENGTH;
+use crate::OPTION_LENGTH;
+use crate::RATE;
+use crate::TTL;
+use crate::Written;
+use crate::byte_at;
+use crate::word_of;
+use crate::write_option;
+use refusals::Refusal;
+
+// The option's kind.
+const RESPONSE: u8 = 27;
+
+pub struct Response {
+    pub rate: u32,
+    pub ttl_diff: u8,
+    pub nonce: u32,
+}
+
+pub enum Reading {
+    Response(Response),
+    Refused(Refusal),
+}
+
+// Whether eight bytes are a response: its kind and its length.
+fn is_response(option: &[u8]) -> bool
+    requires { ⌜ length (now option) ≡ optionLength ⌝ }
+    ensures { λ r. ⌜ r ≡ isResponse (now (option .entry)) ⌝ }
+{
+    if option[KIND] != RESPONSE {
+        return false;
+    }
+    option[LENGTH] == OPTION_LENGTH as u8
+}
+
+// Reads a response from a buffer of exactly eight bytes. The reserved bits are ignored.
+pub fn read(option: &[u8]) -> Reading
+    ensures { λ r. ⌜ responseTold r ≡ responseRead (now (option .entry)) ⌝ }
+{
+    if option.len() != OPTION_LENGTH {
+        return Reading::Refused(Refusal::OutOfRange);
+    }
+    if !is_response(option) {
+        return Reading::Refused(Refusal::NoResponse);
+    }
+    Reading::Response(Response {
+        rate: byte_at(option, RATE) % 16,
+        ttl_diff: option[TTL],
+        nonce: word_of(option) / 4,
+    })
+}
+
+// Writes a response into a buffer of exactly eight bytes, with the reserved bits 0.
+pub fn write(option: &mut [u8], rate: u32, ttl_diff: u8, nonce: u32) -> Written
+    ensures answer { λ r. ⌜ writtenTold r ≡ done (responseWritten (now (option .entry)) rate «ttl_diff» nonce) ⌝ }
+    ensures buffer { λ _. ⌜ now (option .exit) ≡ leaves (now (option .entry)) (responseWritten (now (option .entry)) rate «ttl_diff» nonce) ⌝ }
+{
+    write_option(option, RESPONSE, rate, ttl_diff, nonce)
+}
