@@ -1,4 +1,4 @@
--- The claims of specs/Claims.antt, from the laws of the steps. Assumes nothing.
+-- The claims of specs/Claims.antt, from the laws of the steps and of the window. Assumes nothing.
 use Prim.Native.Nat.{ℕ, suc, _≤_, _<_}
 use mathlib.Core.Path.{_≡_, sym}
 use mathlib.Core.Logic.{⊎-elim}
@@ -6,8 +6,9 @@ use native.Mathlib.Nat.{le-refl, le-trans, not-le-of-lt}
 use native.Mathlib.Omega.{arith}
 use Rattle.common.proofs.Choice.{le-or-gt}
 use Rattle.rates.specs.Steps.{topCode, rateOf, roundedDown, roundedUp, Greatest, Least}
-use Rattle.rates.specs.Claims.{Increasing, RoundingDown, RoundingUp}
+use Rattle.rates.specs.Claims.{Increasing, RoundingDown, RoundingUp, Windows}
 use Rattle.rates.proofs.StepLaws as steps
+use Rattle.rates.proofs.WindowLaws.{window-rule}
 
 pub increasing : Increasing
 increasing = steps.increasing
@@ -43,3 +44,6 @@ roundingUp = record {
   } (steps.up-rule (rateOf code) (steps.rate-positive code p)));
   monotone = up-mono;
 }
+
+pub windows : Windows
+windows = window-rule

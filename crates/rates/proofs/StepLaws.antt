@@ -132,7 +132,7 @@ least-only {wish} p q = ⊎-elim
     (λ g. p .top g ∙ sym (q .top g))
     (le-or-gt wish (rateOf topCode))
 
-least-rule : (more code wish : ℕ) → more + code ≡ topCode → ((d : ℕ) → d < code → rateOf d < wish) → Least wish (leastFrom more code wish)
+least-rule : (tries code wish : ℕ) → tries + code ≡ topCode → ((d : ℕ) → d < code → rateOf d < wish) → Least wish (leastFrom tries code wish)
 unfolding leastFrom
 least-rule zero code wish e low = record {
   up-to = omega arith;
@@ -140,7 +140,7 @@ least-rule zero code wish e low = record {
   least = λ d l f. ⊎-elim (λ (x : code ≤ d). x) (λ x. absurd (not-le-of-lt (low d x) f)) (le-or-gt code d);
   top = λ g. omega arith;
 }
-least-rule (suc more) code wish e low =
+least-rule (suc tries) code wish e low =
     by-leb (Least wish) wish (rateOf code)
     (λ l. record {
       up-to = omega arith;
@@ -148,7 +148,7 @@ least-rule (suc more) code wish e low =
       least = λ d k f. ⊎-elim (λ (x : code ≤ d). x) (λ x. absurd (not-le-of-lt (low d x) f)) (le-or-gt code d);
       top = λ g. absurd (lt-irrefl _ (lt-of-lt-of-le g (le-trans l (rate-mono code topCode (omega arith)))));
     })
-    (λ g. least-rule more (suc code) wish (omega arith) (λ d h. ⊎-elim (λ (l : d < code). low d l) (λ e. subst (λ (k : ℕ). rateOf k < wish) e g) (lt-or-same d code h)))
+    (λ g. least-rule tries (suc code) wish (omega arith) (λ d h. ⊎-elim (λ (l : d < code). low d l) (λ e. subst (λ (k : ℕ). rateOf k < wish) e g) (lt-or-same d code h)))
 
 pub up-rule : (wish : ℕ) → 1 ≤ wish → Least wish (roundedUp wish)
 unfolding roundedUp rateOf

@@ -1,7 +1,8 @@
--- What is claimed of the roundings, beyond the contracts of `round_down` and `round_up`. Assumes nothing.
-use Prim.Native.Nat.{ℕ, _≤_, _<_, min}
+-- What is claimed of rates, roundings and the window, beyond the contracts. Assumes nothing.
+use Prim.Native.Nat.{ℕ, _+_, _*_, _≤_, _<_, min}
 use mathlib.Core.Path.{_≡_}
 use Rattle.rates.specs.Steps.{topCode, rateOf, greatestUpTo, roundedDown, roundedUp, Greatest, Least}
+use Rattle.rates.specs.Window.{windowSegments}
 
 -- a higher code has a higher rate
 abbrev pub Increasing : Type 0
@@ -22,3 +23,11 @@ pub record RoundingUp : Type 0 where
   pub only : (wish code : ℕ) → 1 ≤ wish → Least wish code → code ≡ roundedUp wish
   pub own : (code : ℕ) → 1 ≤ code → code ≤ topCode → roundedUp (rateOf code) ≡ code
   pub monotone : (wish more : ℕ) → 1 ≤ wish → wish ≤ more → roundedUp wish ≤ roundedUp more
+
+-- the window is the greatest number of whole segments, headers included, that the code's rate sends in a round trip: 8 bits to a byte, 1,000,000 microseconds to a second
+pub record WindowRule (code rtt mss headers : ℕ) : Type 0 where
+  pub fits : windowSegments code rtt mss headers * (8 * 1000000 * (mss + headers)) ≤ rateOf code * rtt
+  pub one-more : rateOf code * rtt < (windowSegments code rtt mss headers + 1) * (8 * 1000000 * (mss + headers))
+
+abbrev pub Windows : Type 0
+Windows = (code rtt mss headers : ℕ) → 1 ≤ code → 1 ≤ mss → WindowRule code rtt mss headers

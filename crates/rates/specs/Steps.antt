@@ -1,5 +1,5 @@
 -- The fifteen steps of speed (document 01, "Steps of speed"): the rate of a code, and the two roundings. Assumes nothing.
-use Prim.Native.Nat.{ℕ, zero, suc, _*_, _^_, _≤_, _<_}
+use Prim.Native.Nat.{ℕ, zero, suc, _-_, _*_, _^_, _≤_, _<_}
 use mathlib.Core.Path.{_≡_}
 use lib.Dec.{leb}
 use Rattle.common.specs.Choice.{pick}
@@ -35,16 +35,16 @@ pub record Greatest (top bits code : ℕ) : Type 0 where
   pub fits : rateOf code ≤ bits
   pub greatest : (d : ℕ) → d ≤ top → rateOf d ≤ bits → d ≤ code
 
--- the first of the codes from `code` on whose rate is at least `wish`; after `more` that are too low, the next is taken untried
+-- the first of the codes from `code` on whose rate is at least `wish`; only `tries` of them are tried, and the next is taken after those
 unfoldable pub leastFrom : ℕ → ℕ → ℕ → ℕ
 leastFrom zero code wish = code
-leastFrom (suc more) code wish =
-    let above = leastFrom more (suc code) wish in
+leastFrom (suc tries) code wish =
+    let above = leastFrom tries (suc code) wish in
     pick (leb wish (rateOf code)) code above
 
--- "A sender rounds up: the least code whose rate is at least the wish, and 15 above the top": codes 1 to 14 are tried, then 15 is left
+-- "A sender rounds up: the least code whose rate is at least the wish, and 15 above the top": the codes from 1 on are tried, and after the last but one the highest is left
 unfoldable pub roundedUp : ℕ → ℕ
-roundedUp wish = leastFrom 14 1 wish
+roundedUp wish = leastFrom (topCode - 1) 1 wish
 
 -- "a wish of 0 is refused with 7"
 abbrev pub roundedUpReply : ℕ → Reply ℕ

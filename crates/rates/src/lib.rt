@@ -3,15 +3,16 @@
 ghost use mathlib.Core.Path.{_≡_};
 ghost use Prim.Native.Nat.{_^_, _≤_};
 ghost use Rattle.rates.specs.Steps.{topCode, rateReply, roundedDown, roundedUpReply};
-ghost use Rattle.rates.specs.Window.{pathInRange, windowSegments, windowBytes, windowReply};
+ghost use Rattle.rates.specs.Window.{transportInRange, segmentsReply, bytesReply};
 ghost use Rattle.rates.specs.Replies.{rateTold, codeTold, windowTold};
 use refusals::Refusal;
 use refusals::in_range;
 
 pub const TOP_CODE: u32 = 15;
 
-pub const LONGEST_TRIP: u64 = 60_000_000;
-
+// The longest round trip, in microseconds.
+pub const LONGEST_RTT: u64 = 60_000_000;
+// The most data of a segment, and the least and the most of its headers, in bytes.
 pub const LARGEST_SEGMENT: u64 = 65_535;
 
 pub const LEAST_HEADERS: u64 = 20;
@@ -22,7 +23,7 @@ pub const MOST_HEADERS: u64 = 120;
 const BASE_RATE: u64 = 40_000;
 // The same in bytes a second.
 const BASE_BYTES: u64 = 5_000;
-
+// Microseconds in a second.
 const MICROSECONDS: u64 = 1_000_000;
 
 pub enum Rate {
@@ -41,14 +42,14 @@ pub enum Window {
 }
 
 // 2 to the code.
-fn power(code: u32) -> u64
+fn two_to(code: u32) -> u64
     requires { ⌜ code ≤ topCode ⌝ }
     ensures { λ r. ⌜ r ≡ 2 ^ code ⌝ }
 {
     1u64 << code
 }
 
-// The bits a second of a code from 0 to 15; code 0 is no rate at all.
+// The bits a second of a code from 0 to 15. Code 0 means nothing: 0 bits a second.
 pub fn rate_of(code: u32) -> Rate
     ensures { λ r. ⌜ rateTold r ≡ rateReply code ⌝ }
 {
@@ -58,7 +59,7 @@ pub fn rate_of(code: u32) -> Rate
     if code == 0 {
         return Rate::BitsPerSecond(0);
     }
-    Rate::BitsPerSecond(BASE_RATE * power(code))
+    Rate::BitsPerSecond(BASE_RATE * two_to(code))
 }
 
 // The greatest code whose rate is at most `bits`. The highest set bit of bits / 40,000 is the code,
@@ -77,8 +78,8 @@ pub fn round_down(bits: u64) -> u32
     highest
 }
 
-// The least code whose rate is at least `wish`, and the highest code where none is: one more than
-// the greatest code whose rate is below the wish.
+// The least code whose rate is at least `wish`, and the highest code where no code has such a
+// rate: one more than the greatest code whose rate is below the wish.
 pub fn round_up(wish: u64) -> Code
     ensures { λ r. ⌜ codeTold r ≡ roundedUpReply wish ⌝ }
 {
@@ -92,11 +93,11 @@ pub fn round_up(wish: u64) -> Code
     Code::Is(below + 1)
 }
 
-// Whether round trip, segment size and the headers' length are in their ranges.
-pub fn path_in_range(trip: u64, mss: u64, headers: u64) -> bool
-    ensures { λ r. ⌜ r ≡ pathInRange trip mss headers ⌝ }
+// Whether round rtt, segment size and the headers' length are in their ranges.
+pub fn transport_in_range(rtt: u64, mss: u64, headers: u64) -> bool
+    ensures { λ r. ⌜ r ≡ transportInRange rtt mss headers ⌝ }
 {
-    if !in_range(1, trip, LONGEST_TRIP) {
+    if !in_range(1, rtt, LONGEST_RTT) {
         return false;
     }
     if !in_range(1, mss, LARGEST_SEGMENT) {
@@ -105,25 +106,25 @@ pub fn path_in_range(trip: u64, mss: u64, headers: u64) -> bool
     in_range(LEAST_HEADERS, headers, MOST_HEADERS)
 }
 
-// The Quick-Start window of a code 1 to 15 in segments: what the code's rate sends in a round trip
-// of `trip` microseconds, in whole segments of `mss` bytes that carry `headers` bytes besides.
-pub fn window_segments(code: u32, trip: u64, mss: u64, headers: u64) -> Window
-    ensures { λ r. ⌜ windowTold r ≡ windowReply code trip mss headers (windowSegments code trip mss headers) ⌝ }
+// The Quick-Start window of a code 1 to 15 in segments: what the code's rate sends in a round rtt
+// of `rtt` microseconds, in whole segments of `mss` bytes that carry `headers` bytes besides.
+pub fn window_segments(code: u32, rtt: u64, mss: u64, headers: u64) -> Window
+    ensures { λ r. ⌜ windowTold r ≡ segmentsReply code rtt mss headers ⌝ }
 {
     if !in_range(1, code as u64, TOP_CODE as u64) {
         return Window::Refused(Refusal::OutOfRange);
     }
-    if !path_in_range(trip, mss, headers) {
+    if !transport_in_range(rtt, mss, headers) {
         return Window::Refused(Refusal::OutOfRange);
     }
-    Window::Of(BASE_BYTES * power(code) * trip / (MICROSECONDS * (mss + headers)))
+    Window::Of(BASE_BYTES * two_to(code) * rtt / (MICROSECONDS * (mss + headers)))
 }
 
 // The same window in bytes: its segments times the segment size.
-pub fn window_bytes(code: u32, trip: u64, mss: u64, headers: u64) -> Window
-    ensures { λ r. ⌜ windowTold r ≡ windowReply code trip mss headers (windowBytes code trip mss headers) ⌝ }
+pub fn window_bytes(code: u32, rtt: u64, mss: u64, headers: u64) -> Window
+    ensures { λ r. ⌜ windowTold r ≡ bytesReply code rtt mss headers ⌝ }
 {
-    match window_segments(code, trip, mss, headers) {
+    match window_segments(code, rtt, mss, headers) {
         Window::Of(segments) => Window::Of(segments * mss),
         Window::Refused(why) => Window::Refused(why),
     }

@@ -15,17 +15,17 @@ returns-2 : tie.Need-returns-2
 unfolding rateOf
 returns-2 c = simp (c .if2 .taken)
 
-power-requires : tie.Need-power-requires
-power-requires c κs = search needs
+two-to-requires : tie.Need-two-to-requires
+two-to-requires c κs = search needs
 
 mul-t5 : tie.Need-mul-t5
-mul-t5 c = omega (arith, c .power .ensures, power-small _ (c .before .before .if1 .left))
+mul-t5 c = omega (arith, c .two-to .ensures, power-small _ (c .before .before .if1 .left))
 
 returns-3 : tie.Need-returns-3
 returns-3 c =
     let code = c .before .before .before .args .code in
     let some : 1 ≤ code = omega (arith, c .before .if2 .left) in
-    simp (le-leb _ _ (c .before .before .if1 .left), rate-from code some, c .power .ensures)
+    simp (le-leb _ _ (c .before .before .if1 .left), rate-from code some, c .two-to .ensures)
 
 pub rate-of-spec : {M : Type 1} → statement M
-rate-of-spec = tie.close (tie.spec returns returns-2 power-requires mul-t5 returns-3)
+rate-of-spec = tie.close (tie.spec returns returns-2 two-to-requires mul-t5 returns-3)

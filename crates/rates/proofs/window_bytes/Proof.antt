@@ -22,7 +22,7 @@ returns : tie.Need-returns
 returns c = bytes-answered _ _ _ _ _ (sym (ap windowTold (c .before .segments .given .1)) ∙ c .before .before .before .window-segments .ensures) .1
 
 returns-2 : tie.Need-returns-2
-returns-2 c = bytes-refused _ _ _ _ _ _ _ (sym (ap windowTold (c .before .why .given .1)) ∙ c .before .before .before .window-segments .ensures)
+returns-2 c = bytes-refused _ _ _ _ _ (sym (ap windowTold (c .before .why .given .1)) ∙ c .before .before .before .window-segments .ensures)
 
 pub window-bytes-spec : {M : Type 1} → statement M
 window-bytes-spec =

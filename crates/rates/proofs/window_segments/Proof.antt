@@ -7,9 +7,9 @@ use borrow.Author.Tests.{not-true, not-false}
 use Rattle.common.specs.Choice.{within}
 use Rattle.common.proofs.Choice.{within-high}
 use Rattle.rates.specs.Steps.{topCode}
-use Rattle.rates.specs.Window.{pathInRange, windowSegments}
+use Rattle.rates.specs.Window.{transportInRange, windowSegments}
 use Rattle.rates.proofs.StepLaws.{power-small}
-use Rattle.rates.proofs.WindowLaws.{Path, path-facts, sent-fits}
+use Rattle.rates.proofs.WindowLaws.{Transport, transport-facts, sent-fits}
 use borrow.Author.Needs.{needs}
 use Rattle.rates.proofs.window_segments.Statement.{statement}
 use Rattle.rates.proofs.window_segments.Tie as tie
@@ -17,11 +17,11 @@ use Rattle.rates.proofs.window_segments.Tie as tie
 -- what the tests say once both are passed
 known : (c : tie.Else2) →
     let a = c .before .before .before .before .args in
-    (a .code ≤ topCode) × Path (a .trip) (a .mss) (a .headers) × (within 1 (a .code) topCode ≡ true) × (pathInRange (a .trip) (a .mss) (a .headers) ≡ true)
+    (a .code ≤ topCode) × Transport (a .rtt) (a .mss) (a .headers) × (within 1 (a .code) topCode ≡ true) × (transportInRange (a .rtt) (a .mss) (a .headers) ≡ true)
 known c =
     let code = sym (c .before .before .before .in-range .ensures) ∙ not-false _ (c .before .before .if1 .left) in
-    let path = sym (c .before .path-in-range .ensures) ∙ not-false _ (c .if2 .left) in
-    (within-high _ _ _ code, path-facts _ _ _ path, code, path)
+    let path = sym (c .before .transport-in-range .ensures) ∙ not-false _ (c .if2 .left) in
+    (within-high _ _ _ code, transport-facts _ _ _ path, code, path)
 
 cast-in-range : tie.Need-cast-in-range
 cast-in-range c = search needs
@@ -32,24 +32,24 @@ in-range-requires c κs = search needs
 returns : tie.Need-returns
 returns c = simp (sym (c .before .in-range .ensures) ∙ not-true _ (c .if1 .taken))
 
-path-in-range-requires : tie.Need-path-in-range-requires
-path-in-range-requires c κs = search needs
+transport-in-range-requires : tie.Need-transport-in-range-requires
+transport-in-range-requires c κs = search needs
 
 returns-2 : tie.Need-returns-2
 returns-2 c =
     simp (
       sym (c .before .before .before .in-range .ensures) ∙ not-false _ (c .before .before .if1 .left),
-      sym (c .before .path-in-range .ensures) ∙ not-true _ (c .if2 .taken),
+      sym (c .before .transport-in-range .ensures) ∙ not-true _ (c .if2 .taken),
     )
 
-power-requires : tie.Need-power-requires
-power-requires c κs = known c .0
+two-to-requires : tie.Need-two-to-requires
+two-to-requires c κs = known c .0
 
 mul-t7 : tie.Need-mul-t7
-mul-t7 c = let k = known (c .before) in omega (arith, c .power .ensures, power-small _ (k .0))
+mul-t7 c = let k = known (c .before) in omega (arith, c .two-to .ensures, power-small _ (k .0))
 
 mul-t11 : tie.Need-mul-t11
-mul-t11 c = let k = known (c .before) in rw (c .power .ensures) record { fits = sent-fits _ _ (k .0) (k .1 .trip-high) }
+mul-t11 c = let k = known (c .before) in rw (c .two-to .ensures) record { fits = sent-fits _ _ (k .0) (k .1 .rtt-high) }
 
 add-t12 : tie.Need-add-t12
 add-t12 c = let k = known (c .before) .1 in omega arith
@@ -62,7 +62,7 @@ div-t14 c = let k = known (c .before) .1 in omega arith
 
 returns-3 : tie.Need-returns-3
 unfolding windowSegments
-returns-3 c = let k = known (c .before) in simp (k .2, k .3, c .power .ensures)
+returns-3 c = let k = known (c .before) in simp (k .2, k .3, c .two-to .ensures)
 
 pub window-segments-spec : {M : Type 1} → statement M
 window-segments-spec =
@@ -71,9 +71,9 @@ window-segments-spec =
     cast-in-range
     in-range-requires
     returns
-    path-in-range-requires
+    transport-in-range-requires
     returns-2
-    power-requires
+    two-to-requires
     mul-t7
     mul-t11
     add-t12

@@ -1,23 +1,23 @@
--- `rates::path_in_range` meets its contract: each return says how the tests of `pathInRange` fell. Assumes nothing.
+-- `rates::transport_in_range` meets its contract: each return says how the tests of `transportInRange` fell. Assumes nothing.
 use mathlib.Core.Path.{sym, _∙_}
 use borrow.Author.Tests.{not-true, not-false}
-use Rattle.rates.specs.Window.{pathInRange}
+use Rattle.rates.specs.Window.{transportInRange}
 use borrow.Author.Needs.{needs}
-use Rattle.rates.proofs.path_in_range.Statement.{statement}
-use Rattle.rates.proofs.path_in_range.Tie as tie
+use Rattle.rates.proofs.transport_in_range.Statement.{statement}
+use Rattle.rates.proofs.transport_in_range.Tie as tie
 
 in-range-requires : tie.Need-in-range-requires
 in-range-requires c κs = search needs
 
 returns : tie.Need-returns
-unfolding pathInRange
+unfolding transportInRange
 returns c = simp (sym (c .before .in-range .ensures) ∙ not-true _ (c .if1 .taken))
 
 in-range-requires-2 : tie.Need-in-range-requires-2
 in-range-requires-2 c κs = search needs
 
 returns-2 : tie.Need-returns-2
-unfolding pathInRange
+unfolding transportInRange
 returns-2 c =
     simp (
       sym (c .before .before .before .in-range .ensures) ∙ not-false _ (c .before .before .if1 .left),
@@ -28,7 +28,7 @@ in-range-requires-3 : tie.Need-in-range-requires-3
 in-range-requires-3 c κs = search needs
 
 returns-3 : tie.Need-returns-3
-unfolding pathInRange
+unfolding transportInRange
 returns-3 c =
     simp (
       sym (c .before .before .before .before .in-range .ensures) ∙ not-false _ (c .before .before .before .if1 .left),
@@ -36,8 +36,8 @@ returns-3 c =
     )
     (c .in-range3 .ensures)
 
-pub path-in-range-spec : {M : Type 1} → statement M
-path-in-range-spec =
+pub transport-in-range-spec : {M : Type 1} → statement M
+transport-in-range-spec =
     tie.close
     (tie.spec
     in-range-requires

@@ -1,12 +1,12 @@
--- `rates::power` meets its contract: a single digit shifted to a place up to the highest code loses nothing. Assumes nothing.
+-- `rates::two_to` meets its contract: a single digit shifted to a place up to the highest code loses nothing. Assumes nothing.
 use native.Mathlib.Nat.{one-mul}
 use native.Mathlib.Omega.{arith}
 use mathlib.Core.Path.{_∙_}
 use lib.Dec.{lit<}
 use lib.Pow.{shl-exact}
 use borrow.Author.Needs.{needs}
-use Rattle.rates.proofs.power.Statement.{statement}
-use Rattle.rates.proofs.power.Tie as tie
+use Rattle.rates.proofs.two_to.Statement.{statement}
+use Rattle.rates.proofs.two_to.Tie as tie
 
 shl-result : tie.Need-shl-result
 shl-result c = search needs
@@ -14,5 +14,5 @@ shl-result c = search needs
 returns : tie.Need-returns
 returns c = shl-exact 1 (c .args .code) 64 (lit< tt) (omega arith) ∙ one-mul _
 
-pub power-spec : {M : Type 1} → statement M
-power-spec = tie.close (tie.spec shl-result returns)
+pub two-to-spec : {M : Type 1} → statement M
+two-to-spec = tie.close (tie.spec shl-result returns)
