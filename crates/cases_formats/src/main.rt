@@ -95,17 +95,17 @@ fn boundary(code: u32) {
 }
 
 // The window in segments and in bytes.
-fn window(code: u32, trip: u64, mss: u64, headers: u64) {
+fn window(code: u32, rtt: u64, mss: u64, headers: u64) {
     say(b"window");
     number(code as u64);
-    number(trip);
+    number(rtt);
     number(mss);
     number(headers);
-    match rates::window_segments(code, trip, mss, headers) {
+    match rates::window_segments(code, rtt, mss, headers) {
         Window::Of(segments) => {
             say(b":");
             number(segments);
-            match rates::window_bytes(code, trip, mss, headers) {
+            match rates::window_bytes(code, rtt, mss, headers) {
                 Window::Of(bytes) => {
                     number(bytes);
                     say(b"\n");

@@ -2,7 +2,7 @@
 -- Assumes nothing.
 use Prim.Native.Nat.{ℕ, zero, suc, _+_, _-_, _*_, _/_, _%_, _^_, _≤_, _<_, zero-le}
 use mathlib.Core.Path.{_≡_, refl, sym, ap, ap₂, subst, _∙_}
-use native.Mathlib.Nat.{le-refl, le-trans, lt-of-lt-of-le, mul-comm, mul-le-mul-left, mod-lt, mod-eq-of-lt, pow-zero, pow-suc, pow-succ', pow-le-pow-right, div-div-eq-div-mul}
+use native.Mathlib.Nat.{le-refl, le-trans, lt-of-lt-of-le, mul-comm, mul-le-mul-left, mod-lt, mod-one, mod-eq-of-lt, pow-zero, pow-suc, pow-succ', pow-le-pow-right, div-div-eq-div-mul}
 use native.Mathlib.Omega.{arith}
 use lib.Arith.{digits-div, digits-mod, mod-mul}
 use lib.Pow.{pow-add}
@@ -49,6 +49,12 @@ module _ (b : ℕ) (base : 0 < b) where
   -- one more digit
   low-suc : (n i : ℕ) → n % b ^ suc i ≡ (n / b ^ i % b) * b ^ i + n % b ^ i
   low-suc n i = ap (λ (k : ℕ). n % k) (pow-succ' b i) ∙ mod-mul n base (power-pos i)
+
+  -- numbers that have each digit below i in common have the same i lowest digits
+  pub digits-same : (m n i : ℕ) → ((j : ℕ) → j < i → m / b ^ j % b ≡ n / b ^ j % b) → m % b ^ i ≡ n % b ^ i
+  digits-same m n zero f = simp (pow-zero, mod-one)
+  digits-same m n (suc i) f =
+      low-suc m i ∙ ap₂ (λ (x y : ℕ). x * b ^ i + y) (f i (le-refl (suc i))) (digits-same m n i (λ j h. f j (omega arith))) ∙ sym (low-suc n i)
 
   more-digits : (m n i k : ℕ) → m % b ^ i ≡ n % b ^ i → ((j : ℕ) → i ≤ j → m / b ^ j % b ≡ n / b ^ j % b) → m % b ^ (k + i) ≡ n % b ^ (k + i)
   more-digits m n i zero e f = subst (λ (j : ℕ). m % b ^ j ≡ n % b ^ j) {x = i} {y = 0 + i} (omega arith) e

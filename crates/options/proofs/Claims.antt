@@ -16,43 +16,53 @@ use Rattle.options.specs.declared.response.Response.{Response}
 use Rattle.options.specs.Wire.{optionLength, nonceLimit, fieldsFit, optionBytes, optionWritten, kindIn, lengthIn, highHalf, rateIn, ttlIn, wordOf, nonceIn, reservedIn}
 use Rattle.options.specs.Requests.{isRequest, requestRead, requestWritten, requestRewritten}
 use Rattle.options.specs.Responses.{isResponse, responseRead, responseWritten}
-use Rattle.options.specs.Claims.{Bytes, RequestRoundTrip, ResponseRoundTrip, Lowering}
+use Rattle.options.specs.Claims.{Bytes, RequestRoundTrip, ResponseRoundTrip, Lowering, Agreeing}
 use Rattle.options.proofs.WireLaws.{Fit, fit-facts, word-back, word-small, bytes-back}
 use Rattle.options.proofs.NonceLaws as nonces
 
 -- ---- what eight bytes written from fields read back as
 
-request-back : (rate ttl nonce word : ℕ) → rate ≤ topCode → word / 4 ≡ nonce
-    → requestRead (optionBytes 25 rate ttl word) ≡ answer (record { rate = rate; «qs_ttl» = ttl; nonce = nonce })
+request-back : (rate ttl nonce reserved : ℕ) → rate ≤ topCode → reserved < 4
+    → requestRead (optionBytes 25 rate ttl nonce reserved) ≡ answer (record { rate = rate; «qs_ttl» = ttl; nonce = nonce })
 unfolding optionBytes isRequest
-request-back rate ttl nonce word r w =
+request-back rate ttl nonce reserved r s =
     let high : rate / 16 ≡ 0 = omega arith in
     let low : rate % 16 ≡ rate = omega arith in
-    simp (eq-eqb _ _ high, low, word-back 25 rate ttl word, w)
+    let word : (nonce * 4 + reserved) / 4 ≡ nonce = omega arith in
+    simp (eq-eqb _ _ high, low, word-back 25 rate ttl nonce reserved, word)
 
-response-back : (rate diff nonce word : ℕ) → rate ≤ topCode → word / 4 ≡ nonce
-    → responseRead (optionBytes 27 rate diff word) ≡ answer (record { rate = rate; «ttl_diff» = diff; nonce = nonce })
+response-back : (high rate diff nonce reserved : ℕ) → rate ≤ topCode → reserved < 4
+    → responseRead (optionBytes 27 (high * 16 + rate) diff nonce reserved) ≡ answer (record { rate = rate; «ttl_diff» = diff; nonce = nonce })
 unfolding optionBytes isResponse
-response-back rate diff nonce word r w =
-    let low : rate % 16 ≡ rate = omega arith in
-    simp (low, word-back 27 rate diff word, w)
+response-back high rate diff nonce reserved r s =
+    let low : (high * 16 + rate) % 16 ≡ rate = omega arith in
+    let word : (nonce * 4 + reserved) / 4 ≡ nonce = omega arith in
+    simp (low, word-back 27 (high * 16 + rate) diff nonce reserved, word)
 
-reserved-back : (kind third fourth word reserved : ℕ) → word % 4 ≡ reserved → reservedIn (optionBytes kind third fourth word) ≡ reserved
-reserved-back kind third fourth word reserved w = ap (λ (k : ℕ). k % 4) (word-back kind third fourth word) ∙ w
+reserved-back : (kind rate ttl nonce reserved : ℕ) → reserved < 4 → reservedIn (optionBytes kind rate ttl nonce reserved) ≡ reserved
+reserved-back kind rate ttl nonce reserved s = ap (λ (w : ℕ). w % 4) (word-back kind rate ttl nonce reserved) ∙ omega arith
 
--- ---- what an accepted write says
+-- ---- when a write is accepted, and what that says
 
-new-option : (kind : ℕ) (old new : List ℕ) (rate fourth nonce : ℕ) → optionWritten kind old rate fourth nonce ≡ answer new
-    → Fit (length old) rate nonce × (new ≡ optionBytes kind rate fourth (nonce * 4))
-new-option kind old new rate fourth nonce e =
-    let a = answered (fieldsFit (length old) rate nonce) new (optionBytes kind rate fourth (nonce * 4)) 7 (sym e) in
+fit : (len rate nonce : ℕ) → len ≡ optionLength → rate ≤ topCode → nonce < nonceLimit → fieldsFit len rate nonce ≡ true
+unfolding fieldsFit
+fit len rate nonce l r n = simp (eq-eqb len optionLength l, le-leb rate topCode r, lt-ltb nonce nonceLimit n)
+
+writable : (kind : ℕ) (old : List ℕ) (rate ttl nonce : ℕ) → length old ≡ optionLength → rate ≤ topCode → nonce < nonceLimit
+    → (new : List ℕ) × (optionWritten kind old rate ttl nonce ≡ answer new)
+writable kind old rate ttl nonce l r n = (optionBytes kind rate ttl nonce 0, simp (fit (length old) rate nonce l r n))
+
+new-option : (kind : ℕ) (old new : List ℕ) (rate ttl nonce : ℕ) → optionWritten kind old rate ttl nonce ≡ answer new
+    → Fit (length old) rate nonce × (new ≡ optionBytes kind rate ttl nonce 0)
+new-option kind old new rate ttl nonce e =
+    let a = answered (fieldsFit (length old) rate nonce) new (optionBytes kind rate ttl nonce 0) 7 (sym e) in
     (fit-facts (length old) rate nonce (a .0), a .1)
 
 changed-option : (old new : List ℕ) (rate ttl nonce : ℕ) → requestRewritten old rate ttl nonce ≡ answer new
-    → Fit (length old) rate nonce × (new ≡ optionBytes 25 rate ttl (nonce * 4 + reservedIn old))
+    → Fit (length old) rate nonce × (new ≡ optionBytes 25 rate ttl nonce (reservedIn old))
 changed-option old new rate ttl nonce e =
     let outer = passed (fieldsFit (length old) rate nonce) new _ 7 (sym e) in
-    let inner = answered (isRequest old) new (optionBytes 25 rate ttl (nonce * 4 + reservedIn old)) 4 (outer .1) in
+    let inner = answered (isRequest old) new (optionBytes 25 rate ttl nonce (reservedIn old)) 4 (outer .1) in
     (fit-facts (length old) rate nonce (outer .0), inner .1)
 
 -- ---- what an accepted reading says
@@ -99,59 +109,69 @@ response-is option r e =
 
 -- the fields of eight bytes are in range
 own-fit : (option : List ℕ) → length option ≡ optionLength → Bytes option → fieldsFit (length option) (rateIn option) (nonceIn option) ≡ true
-unfolding fieldsFit
-own-fit option len bytes =
-    let word = word-small option bytes in
-    simp (eq-eqb _ _ len, le-leb (rateIn option) topCode (omega arith), lt-ltb (nonceIn option) nonceLimit (omega arith))
+own-fit option len bytes = let word = word-small option bytes in fit (length option) (rateIn option) (nonceIn option) len (omega arith) (omega arith)
 
 -- and written with the reserved bits they have, they are those eight bytes
-own-bytes : (option : List ℕ) (kind word : ℕ) → length option ≡ optionLength → kindIn option ≡ kind → lengthIn option ≡ 8 → highHalf option ≡ 0 → word ≡ wordOf option → Bytes option
-    → optionBytes kind (rateIn option) (ttlIn option) word ≡ option
-own-bytes option kind word len k second high w bytes =
+own-bytes : (option : List ℕ) (kind reserved : ℕ)
+    → length option ≡ optionLength
+    → kindIn option ≡ kind
+    → lengthIn option ≡ 8
+    → highHalf option ≡ 0
+    → reservedIn option ≡ reserved
+    → Bytes option
+    → optionBytes kind (rateIn option) (ttlIn option) (nonceIn option) reserved ≡ option
+own-bytes option kind reserved len k second high r bytes =
     let low : rateIn option ≡ getD option 2 0 = omega (arith, bytes 2) in
-    simp (← k, low, w) (bytes-back option len second bytes)
+    simp (← k, ← r, low) (bytes-back option len second bytes)
 
 pub requestRoundTrip : RequestRoundTrip
 requestRoundTrip = record {
+  accepted = writable 25;
+  rewriting-accepted = λ old r rate ttl nonce e h n.
+      let i = request-is old r e in
+      (optionBytes 25 rate ttl nonce (reservedIn old), simp (fit (length old) rate nonce (i .len) h n, i .is-request));
   written = λ old new rate ttl nonce e.
       let n = new-option 25 old new rate ttl nonce e in
-      ap requestRead (n .1) ∙ request-back rate ttl nonce (nonce * 4) (n .0 .code-high) (omega arith);
+      ap requestRead (n .1) ∙ request-back rate ttl nonce 0 (n .0 .code-high) (omega arith);
   rewritten = λ old new rate ttl nonce e.
       let n = changed-option old new rate ttl nonce e in
-      ap requestRead (n .1) ∙ request-back rate ttl nonce (nonce * 4 + reservedIn old) (n .0 .code-high) (omega arith);
+      ap requestRead (n .1) ∙ request-back rate ttl nonce (reservedIn old) (n .0 .code-high) (omega arith);
   written-reserved = λ old new rate ttl nonce e.
-      ap (λ (l : List ℕ). reservedIn l) (new-option 25 old new rate ttl nonce e .1) ∙ reserved-back 25 rate ttl (nonce * 4) 0 (omega arith);
+      ap (λ (l : List ℕ). reservedIn l) (new-option 25 old new rate ttl nonce e .1) ∙ reserved-back 25 rate ttl nonce 0 (omega arith);
   rewritten-reserved = λ old new rate ttl nonce e.
-      ap (λ (l : List ℕ). reservedIn l) (changed-option old new rate ttl nonce e .1)
-      ∙ reserved-back 25 rate ttl (nonce * 4 + reservedIn old) (reservedIn old) (omega arith);
+      ap (λ (l : List ℕ). reservedIn l) (changed-option old new rate ttl nonce e .1) ∙ reserved-back 25 rate ttl nonce (reservedIn old) (omega arith);
   again = λ option r bytes e reserved.
       let i = request-is option r e in
       rw (i .fields)
-      (simp (own-fit option (i .len) bytes)
-      (ap answer (own-bytes option 25 (nonceIn option * 4) (i .len) (i .kind) (i .second) (i .function) (omega arith) bytes)));
+      (simp (own-fit option (i .len) bytes) (ap answer (own-bytes option 25 0 (i .len) (i .kind) (i .second) (i .function) reserved bytes)));
   kept = λ option r bytes e.
       let i = request-is option r e in
       rw (i .fields)
       (simp (own-fit option (i .len) bytes, i .is-request)
-      (ap answer (own-bytes option 25 (nonceIn option * 4 + reservedIn option) (i .len) (i .kind) (i .second) (i .function) (omega arith) bytes)));
+      (ap answer (own-bytes option 25 (reservedIn option) (i .len) (i .kind) (i .second) (i .function) refl bytes)));
+  ignored = request-back;
 }
 
 pub responseRoundTrip : ResponseRoundTrip
 unfolding optionBytes
 responseRoundTrip = record {
+  accepted = writable 27;
   written = λ old new rate diff nonce e.
       let n = new-option 27 old new rate diff nonce e in
-      ap responseRead (n .1) ∙ response-back rate diff nonce (nonce * 4) (n .0 .code-high) (omega arith);
+      ap responseRead (n .1) ∙ ap (λ (k : ℕ). responseRead (optionBytes 27 k diff nonce 0)) {x = rate} {y = 0 * 16 + rate} (omega arith) ∙ response-back 0 rate diff nonce 0 (n .0 .code-high) (omega arith);
   written-reserved = λ old new rate diff nonce e.
       let n = new-option 27 old new rate diff nonce e in
       let k = n .0 .code-high in
-      (ap (λ (l : List ℕ). highHalf l) (n .1) ∙ omega arith, ap (λ (l : List ℕ). reservedIn l) (n .1) ∙ reserved-back 27 rate diff (nonce * 4) 0 (omega arith));
+      (ap (λ (l : List ℕ). highHalf l) (n .1) ∙ omega arith, ap (λ (l : List ℕ). reservedIn l) (n .1) ∙ reserved-back 27 rate diff nonce 0 (omega arith));
   again = λ option r bytes e high reserved.
       let i = response-is option r e in
       rw (i .fields)
-      (simp (own-fit option (i .len) bytes)
-      (ap answer (own-bytes option 27 (nonceIn option * 4) (i .len) (i .kind) (i .second) high (omega arith) bytes)));
+      (simp (own-fit option (i .len) bytes) (ap answer (own-bytes option 27 0 (i .len) (i .kind) (i .second) high reserved bytes)));
+  ignored = response-back;
 }
 
 pub lowering : Lowering
 lowering = nonces.lowering
+
+pub agreeing : Agreeing
+agreeing = nonces.agreeing

@@ -9,14 +9,14 @@ use native.Mathlib.Omega.{arith}
 use lib.Arith.{digits-lt, digits-div, digits-mod}
 use lib.Dec.{lit<}
 use lib.Pow.{pow-add, shl-exact}
-use borrow.Author.Tests.{lt-ltb, eq-eqb, ne-eqb}
+use borrow.Author.Tests.{lt-ltb, le-ltb, eq-eqb, ne-eqb, eqb-true}
 use Rattle.common.specs.Choice.{pick}
 use Rattle.common.proofs.Choice.{by-ltb, le-or-gt}
-use Rattle.common.proofs.Digits.{power-pos, power-split, low-low, digit-of-low, digit-same-low, digit-same-high, same-digits}
+use Rattle.common.proofs.Digits.{power-pos, power-split, low-low, digit-of-low, digit-same-low, digit-same-high, digits-same, same-digits}
 use Rattle.rates.specs.Steps.{topCode}
 use Rattle.options.specs.Wire.{nonceLimit}
 use Rattle.options.specs.Nonces.{fieldOf, fieldsUpTo, lowered, agree}
-use Rattle.options.specs.Claims.{Kept, Lowering}
+use Rattle.options.specs.Claims.{Kept, Lowering, Agreeing}
 
 four : 0 < 4
 four = lit< tt
@@ -54,7 +54,7 @@ module _ (old new n f : ℕ) (h : new ≤ old) where
       subst (λ (k : ℕ). mix (4 ^ old) (4 ^ new) n f < k) (sym e) (digits-lt q inner-small)
 
   mix-kept : Kept old new n f (mix (4 ^ old) (4 ^ new) n f)
-  unfolding fieldOf
+  unfolding fieldOf fieldsUpTo
   mix-kept =
       let m = mix (4 ^ old) (4 ^ new) n f in
       record {
@@ -75,7 +75,7 @@ keeps old new nonce fresh h =
 
 -- one nonce at most is what a lowering keeps: it agrees with another such one in its lowest digits and in each digit above them
 pub only : (old new nonce fresh a b : ℕ) → new ≤ old → Kept old new nonce fresh a → Kept old new nonce fresh b → a ≡ b
-unfolding fieldOf
+unfolding fieldOf fieldsUpTo
 only old new nonce fresh a b h p q =
     same-digits 4 (lit< tt) a b new (p .low ∙ sym (q .low))
     (λ j l. subst (λ (k : ℕ). a / 4 ^ k % 4 ≡ b / 4 ^ k % 4) {x = j + 1 - 1} {y = j} (omega arith)
@@ -89,9 +89,14 @@ unfolding lowered
 in-range old new nonce fresh h b =
     by-ltb (λ (k : ℕ). k < nonceLimit) new old (λ l. mix-small old new nonce fresh (omega arith) topCode h b) (λ g. b)
 
+pub not-below : (old new nonce fresh : ℕ) → old ≤ new → lowered old new nonce fresh ≡ nonce
+unfolding lowered
+not-below old new nonce fresh h = simp (le-ltb new old h)
+
 -- a field up to the code between comes from the second step, a higher one from the first
 pub two-steps-keep : (old mid new nonce fresh fresher : ℕ) → new ≤ mid → mid ≤ old
     → Kept old new nonce (lowered mid new fresh fresher) (lowered mid new (lowered old mid nonce fresh) fresher)
+unfolding fieldsUpTo
 two-steps-keep old mid new nonce fresh fresher h l =
     let first = keeps old mid nonce fresh l in
     let second = keeps mid new (lowered old mid nonce fresh) fresher h in
@@ -110,12 +115,29 @@ pub lowering : Lowering
 lowering = record {
   keeps = keeps;
   only = λ old new nonce fresh after h k. only old new nonce fresh after (lowered old new nonce fresh) h k (keeps old new nonce fresh h);
+  not-below = not-below;
   in-range = in-range;
   two-steps = λ old mid new nonce fresh fresher h l.
       only old new nonce (lowered mid new fresh fresher) (lowered mid new (lowered old mid nonce fresh) fresher) (lowered old new nonce (lowered mid new fresh fresher)) (le-trans h l)
       (two-steps-keep old mid new nonce fresh fresher h l)
       (keeps old new nonce (lowered mid new fresh fresher) (le-trans h l));
-  two-steps-keep = two-steps-keep;
+}
+
+-- ---- the comparison
+
+-- numbers that have each digit below `code` in common have the same lowest digits
+same-fields : (code a b : ℕ) → ((k : ℕ) → 1 ≤ k → k ≤ code → fieldOf k a ≡ fieldOf k b) → a % 4 ^ code ≡ b % 4 ^ code
+unfolding fieldOf
+same-fields code a b f =
+    digits-same 4 four a b code
+    (λ j h. subst (λ (k : ℕ). a / 4 ^ k % 4 ≡ b / 4 ^ k % 4) {x = j + 1 - 1} {y = j} (omega arith) (f (j + 1) (omega arith) (omega arith)))
+
+pub agreeing : Agreeing
+unfolding agree fieldsUpTo fieldOf
+agreeing = record {
+  fields = λ code a b e k l h. digit-same-low 4 four a b (k - 1) code (eqb-true (a % 4 ^ code) (b % 4 ^ code) e) (omega arith);
+  whole = λ code a b f. eq-eqb (a % 4 ^ code) (b % 4 ^ code) (same-fields code a b f);
+  honest = λ old new nonce fresh h. eq-eqb (nonce % 4 ^ new) (lowered old new nonce fresh % 4 ^ new) (sym (keeps old new nonce fresh h .low));
 }
 
 -- ---- what the code computes

@@ -11,7 +11,7 @@ use lib.ListN.{length, getD}
 use Rattle.common.proofs.Choice.{both-true}
 use Rattle.common.proofs.Lists.{written-out}
 use Rattle.rates.specs.Steps.{topCode}
-use Rattle.options.specs.Wire.{optionLength, nonceLimit, fieldsFit, optionBytes, kindIn, lengthIn, ttlIn, wordOf}
+use Rattle.options.specs.Wire.{optionLength, nonceLimit, fieldsFit, optionBytes, kindIn, lengthIn, ttlIn, wordOf, nonceIn, reservedIn}
 use Rattle.options.specs.Claims.{Bytes}
 
 pub record Fit (len code nonce : ℕ) : Type 0 where
@@ -27,13 +27,14 @@ fit-facts len code nonce e =
     record { len-is = eqb-true len optionLength (inner .0); code-high = leb-true code topCode (inner .1); nonce-small = ltb-true nonce nonceLimit (outer .1) }
 
 -- the word reads back
-pub word-back : (kind third fourth word : ℕ) → wordOf (optionBytes kind third fourth word) ≡ word
+pub word-back : (kind rate ttl nonce reserved : ℕ) → wordOf (optionBytes kind rate ttl nonce reserved) ≡ nonce * 4 + reserved
 unfolding wordOf optionBytes
-word-back kind third fourth word = omega arith
+word-back kind rate ttl nonce reserved = omega arith
 
--- four bytes make a word, and the word's bytes are those four
-word-bytes : (a b c d : ℕ) → b < 256 → c < 256 → d < 256 → let w = a * 16777216 + b * 65536 + c * 256 + d in
-    (w / 16777216 ≡ a) × (w / 65536 % 256 ≡ b) × (w / 256 % 256 ≡ c) × (w % 256 ≡ d)
+-- four bytes make a word, and the bytes of its nonce and reserved bits are those four
+word-bytes : (a b c d : ℕ) → b < 256 → c < 256 → d < 256
+    → let w = a * 16777216 + b * 65536 + c * 256 + d in
+    (w / 4 / 4194304 ≡ a) × (w / 4 / 16384 % 256 ≡ b) × (w / 4 / 64 % 256 ≡ c) × (w / 4 % 64 * 4 + w % 4 ≡ d)
 word-bytes a b c d hb hc hd = (omega arith, omega arith, omega arith, omega arith)
 
 pub word-small : (option : List ℕ) → Bytes option → wordOf option < 2 ^ 32
@@ -42,7 +43,7 @@ word-small option bytes = omega (arith, bytes 4, bytes 5, bytes 6, bytes 7)
 
 -- eight bytes whose second is 8 are what is written of their own fields
 pub bytes-back : (option : List ℕ) → length option ≡ optionLength → lengthIn option ≡ 8 → Bytes option
-    → optionBytes (kindIn option) (getD option 2 0) (ttlIn option) (wordOf option) ≡ option
+    → optionBytes (kindIn option) (getD option 2 0) (ttlIn option) (nonceIn option) (reservedIn option) ≡ option
 unfolding optionBytes wordOf
 bytes-back option len second bytes =
     let w = word-bytes (getD option 4 0) (getD option 5 0) (getD option 6 0) (getD option 7 0) (bytes 5) (bytes 6) (bytes 7) in

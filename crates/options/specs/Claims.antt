@@ -1,44 +1,62 @@
--- What is claimed of options and nonces beyond the contracts: what was written reads back, and what a lowering keeps. All of it speaks of the very
--- definitions that the contracts cite. Assumes nothing.
-use Prim.Native.Nat.{ℕ, _%_, _^_, _≤_, _<_}
+-- What is claimed of options and nonces beyond the contracts: what was written reads back, and what a lowering keeps. It speaks of the definitions that the contracts
+-- cite, and of a nonce's single fields. Assumes nothing.
+use Prim.Native.Nat.{ℕ, _+_, _*_, _≤_, _<_}
+use mathlib.Core.Bool.{true}
 use mathlib.Core.List.{List}
 use mathlib.Core.Path.{_≡_}
-use lib.ListN.{getD}
+use lib.ListN.{length, getD}
 use Rattle.refusals.specs.Reply.{answer}
 use Rattle.rates.specs.Steps.{topCode}
 use Rattle.options.specs.declared.request.Request.{Request}
 use Rattle.options.specs.declared.response.Response.{Response}
-use Rattle.options.specs.Wire.{nonceLimit, highHalf, reservedIn}
+use Rattle.options.specs.Wire.{optionLength, nonceLimit, optionBytes, highHalf, reservedIn}
 use Rattle.options.specs.Requests.{requestRead, requestWritten, requestRewritten}
 use Rattle.options.specs.Responses.{responseRead, responseWritten}
-use Rattle.options.specs.Nonces.{fieldOf, lowered}
+use Rattle.options.specs.Nonces.{fieldOf, fieldsUpTo, lowered, agree}
 
 -- every element is a byte
 abbrev pub Bytes : List ℕ → Type 0
 Bytes option = (i : ℕ) → getD option i 0 < 256
 
--- `old` is the buffer before a write and `new` the eight bytes that an accepted write leaves
+-- `old` is the buffer before a write, and `new` the eight bytes that an accepted write leaves
 pub record RequestRoundTrip : Type 0 where
+  -- a write in range is accepted, and so is a rewriting in range of what reads as a request
+  pub accepted : (old : List ℕ) (rate ttl nonce : ℕ) → length old ≡ optionLength → rate ≤ topCode → nonce < nonceLimit
+      → (new : List ℕ) × (requestWritten old rate ttl nonce ≡ answer new)
+  pub rewriting-accepted : (old : List ℕ) (r : Request) (rate ttl nonce : ℕ) → requestRead old ≡ answer r → rate ≤ topCode → nonce < nonceLimit
+      → (new : List ℕ) × (requestRewritten old rate ttl nonce ≡ answer new)
   -- what was written, or rewritten, reads back as what was meant
-  pub written : (old new : List ℕ) (rate ttl nonce : ℕ) → requestWritten old rate ttl nonce ≡ answer new → requestRead new ≡ answer (record { rate = rate; «qs_ttl» = ttl; nonce = nonce })
-  pub rewritten : (old new : List ℕ) (rate ttl nonce : ℕ) → requestRewritten old rate ttl nonce ≡ answer new → requestRead new ≡ answer (record { rate = rate; «qs_ttl» = ttl; nonce = nonce })
+  pub written : (old new : List ℕ) (rate ttl nonce : ℕ) → requestWritten old rate ttl nonce ≡ answer new
+      → requestRead new ≡ answer (record { rate = rate; «qs_ttl» = ttl; nonce = nonce })
+  pub rewritten : (old new : List ℕ) (rate ttl nonce : ℕ) → requestRewritten old rate ttl nonce ≡ answer new
+      → requestRead new ≡ answer (record { rate = rate; «qs_ttl» = ttl; nonce = nonce })
   -- a write leaves the reserved bits 0, and a rewriting leaves them as they came
   pub written-reserved : (old new : List ℕ) (rate ttl nonce : ℕ) → requestWritten old rate ttl nonce ≡ answer new → reservedIn new ≡ 0
   pub rewritten-reserved : (old new : List ℕ) (rate ttl nonce : ℕ) → requestRewritten old rate ttl nonce ≡ answer new → reservedIn new ≡ reservedIn old
   -- a request read and written again has the same eight bytes when its reserved bits are 0; read and rewritten, it has them in any case
-  pub again : (option : List ℕ) (r : Request) → Bytes option → requestRead option ≡ answer r → reservedIn option ≡ 0 → requestWritten option (r .rate) (r .«qs_ttl») (r .nonce) ≡ answer option
-  pub kept : (option : List ℕ) (r : Request) → Bytes option → requestRead option ≡ answer r → requestRewritten option (r .rate) (r .«qs_ttl») (r .nonce) ≡ answer option
+  pub again : (option : List ℕ) (r : Request) → Bytes option → requestRead option ≡ answer r → reservedIn option ≡ 0
+      → requestWritten option (r .rate) (r .«qs_ttl») (r .nonce) ≡ answer option
+  pub kept : (option : List ℕ) (r : Request) → Bytes option → requestRead option ≡ answer r
+      → requestRewritten option (r .rate) (r .«qs_ttl») (r .nonce) ≡ answer option
+  -- whatever the reserved bits are, the same is read
+  pub ignored : (rate ttl nonce reserved : ℕ) → rate ≤ topCode → reserved < 4
+      → requestRead (optionBytes 25 rate ttl nonce reserved) ≡ answer (record { rate = rate; «qs_ttl» = ttl; nonce = nonce })
 
+-- the same of a response; there the high half of the rate's byte is reserved too
 pub record ResponseRoundTrip : Type 0 where
-  pub written : (old new : List ℕ) (rate diff nonce : ℕ) → responseWritten old rate diff nonce ≡ answer new → responseRead new ≡ answer (record { rate = rate; «ttl_diff» = diff; nonce = nonce })
-  -- of a response the high half of the rate's byte is reserved too
+  pub accepted : (old : List ℕ) (rate diff nonce : ℕ) → length old ≡ optionLength → rate ≤ topCode → nonce < nonceLimit
+      → (new : List ℕ) × (responseWritten old rate diff nonce ≡ answer new)
+  pub written : (old new : List ℕ) (rate diff nonce : ℕ) → responseWritten old rate diff nonce ≡ answer new
+      → responseRead new ≡ answer (record { rate = rate; «ttl_diff» = diff; nonce = nonce })
   pub written-reserved : (old new : List ℕ) (rate diff nonce : ℕ) → responseWritten old rate diff nonce ≡ answer new → (highHalf new ≡ 0) × (reservedIn new ≡ 0)
   pub again : (option : List ℕ) (r : Response) → Bytes option → responseRead option ≡ answer r → highHalf option ≡ 0 → reservedIn option ≡ 0
       → responseWritten option (r .rate) (r .«ttl_diff») (r .nonce) ≡ answer option
+  pub ignored : (high rate diff nonce reserved : ℕ) → rate ≤ topCode → reserved < 4
+      → responseRead (optionBytes 27 (high * 16 + rate) diff nonce reserved) ≡ answer (record { rate = rate; «ttl_diff» = diff; nonce = nonce })
 
--- what a lowering from `old` to `new` leaves of a nonce: below, between and above
+-- what a lowering from `old` to `new` leaves of a nonce: up to the new code, between the two, and above the old one
 pub record Kept (old new nonce fresh after : ℕ) : Type 0 where
-  pub low : after % 4 ^ new ≡ nonce % 4 ^ new
+  pub low : fieldsUpTo new after ≡ fieldsUpTo new nonce
   pub between : (code : ℕ) → new < code → code ≤ old → fieldOf code after ≡ fieldOf code fresh
   pub above : (code : ℕ) → old < code → fieldOf code after ≡ fieldOf code nonce
 
@@ -46,10 +64,17 @@ pub record Lowering : Type 0 where
   pub keeps : (old new nonce fresh : ℕ) → new ≤ old → Kept old new nonce fresh (lowered old new nonce fresh)
   -- and that says all there is to say of it
   pub only : (old new nonce fresh after : ℕ) → new ≤ old → Kept old new nonce fresh after → after ≡ lowered old new nonce fresh
+  -- a new code that is not below the old one refreshes nothing
+  pub not-below : (old new nonce fresh : ℕ) → old ≤ new → lowered old new nonce fresh ≡ nonce
   -- it is a nonce again
   pub in-range : (old new nonce fresh : ℕ) → old ≤ topCode → nonce < nonceLimit → lowered old new nonce fresh < nonceLimit
   -- two steps keep what one step keeps: they are one step, whose fresh nonce is the two steps' fresh nonces joined at the code between
   pub two-steps : (old mid new nonce fresh fresher : ℕ) → new ≤ mid → mid ≤ old
       → lowered mid new (lowered old mid nonce fresh) fresher ≡ lowered old new nonce (lowered mid new fresh fresher)
-  pub two-steps-keep : (old mid new nonce fresh fresher : ℕ) → new ≤ mid → mid ≤ old
-      → Kept old new nonce (lowered mid new fresh fresher) (lowered mid new (lowered old mid nonce fresh) fresher)
+
+pub record Agreeing : Type 0 where
+  -- two nonces agree up to a code exactly when they have each field up to that code in common
+  pub fields : (code a b : ℕ) → agree code a b ≡ true → (k : ℕ) → 1 ≤ k → k ≤ code → fieldOf k a ≡ fieldOf k b
+  pub whole : (code a b : ℕ) → ((k : ℕ) → 1 ≤ k → k ≤ code → fieldOf k a ≡ fieldOf k b) → agree code a b ≡ true
+  -- an honest lowering is no disagreement
+  pub honest : (old new nonce fresh : ℕ) → new ≤ old → agree new nonce (lowered old new nonce fresh) ≡ true

@@ -1,5 +1,5 @@
 -- A request read, written and rewritten (document 01, "Bytes on the wire" and the table of refusals). Assumes nothing.
-use Prim.Native.Nat.{ℕ, _+_, _*_}
+use Prim.Native.Nat.{ℕ}
 use mathlib.Core.Bool.{Bool, _&&_}
 use mathlib.Core.List.{List}
 use lib.Dec.{eqb}
@@ -30,5 +30,5 @@ requestWritten option rate ttl nonce = optionWritten 25 option rate ttl nonce
 abbrev pub requestRewritten : List ℕ → ℕ → ℕ → ℕ → Reply (List ℕ)
 requestRewritten option rate ttl nonce =
     pick (fieldsFit (length option) rate nonce)
-    (pick (isRequest option) (answer (optionBytes 25 rate ttl (nonce * 4 + reservedIn option))) (refuse 4))
+    (pick (isRequest option) (answer (optionBytes 25 rate ttl nonce (reservedIn option))) (refuse 4))
     (refuse 7)

@@ -20,15 +20,16 @@ nonceLimit = 2 ^ 30
 unfoldable pub fieldsFit : ℕ → ℕ → ℕ → Bool
 fieldsFit len code nonce = eqb len optionLength && leb code topCode && ltb nonce nonceLimit
 
--- the eight bytes: kind, length, the rate's byte, the TTL's byte, "then a 32-bit big-endian word"
-unfoldable pub optionBytes : ℕ → ℕ → ℕ → ℕ → List ℕ
-optionBytes kind third fourth word = kind ∷ 8 ∷ third ∷ fourth ∷ word / 16777216 ∷ word / 65536 % 256 ∷ word / 256 % 256 ∷ word % 256 ∷ []
+-- the eight bytes of an option: its kind, its length, the rate code under four bits of 0, the TTL's byte, and then the "32-bit big-endian word: 30 bits of nonce
+-- above 2 reserved bits"
+unfoldable pub optionBytes : ℕ → ℕ → ℕ → ℕ → ℕ → List ℕ
+optionBytes kind rate ttl nonce reserved = kind ∷ 8 ∷ rate ∷ ttl ∷ nonce / 4194304 ∷ nonce / 16384 % 256 ∷ nonce / 64 % 256 ∷ (nonce % 64 * 4 + reserved) ∷ []
 
 -- an option written anew, "Reserved bits are written 0": its eight bytes, or 7 for a length, code or nonce outside its range
 abbrev pub optionWritten : ℕ → List ℕ → ℕ → ℕ → ℕ → Reply (List ℕ)
-optionWritten kind option rate fourth nonce = pick (fieldsFit (length option) rate nonce) (answer (optionBytes kind rate fourth (nonce * 4))) (refuse 7)
+optionWritten kind option rate ttl nonce = pick (fieldsFit (length option) rate nonce) (answer (optionBytes kind rate ttl nonce 0)) (refuse 7)
 
--- the fields of eight bytes: the rate's byte has a half for another use above the code; the word is "30 bits of nonce above 2 reserved bits"
+-- the fields of eight bytes. The high half of the rate's byte is a request's function, and reserved in a response; the nonce and the reserved bits are the word's
 abbrev pub kindIn : List ℕ → ℕ
 kindIn option = getD option 0 0
 

@@ -3,7 +3,7 @@
 ghost use mathlib.Core.Path.{_≡_};
 ghost use Prim.Native.Nat.{_<_};
 ghost use lib.ListN.{length, getD};
-ghost use Rattle.options.specs.Wire.{optionLength, wordOf, optionBytes, optionWritten, fieldsFit};
+ghost use Rattle.options.specs.Wire.{optionLength, nonceLimit, wordOf, optionBytes, optionWritten, fieldsFit};
 ghost use Rattle.options.specs.Replies.{writtenTold};
 ghost use Rattle.refusals.specs.Reply.{leaves, done};
 use rates::TOP_CODE;
@@ -69,28 +69,28 @@ fn word_of(option: &[u8]) -> u32
 }
 
 // Writes all eight bytes.
-fn put(option: &mut [u8], kind: u8, third: u8, fourth: u8, word: u32)
-    requires { ⌜ length (now option) ≡ optionLength ⌝ }
-    ensures { λ _. ⌜ now (option .exit) ≡ optionBytes kind third fourth word ⌝ }
+fn put(option: &mut [u8], kind: u8, rate: u8, ttl: u8, nonce: u32, reserved: u32)
+    requires { ⌜ (length (now option) ≡ optionLength) × (nonce < nonceLimit) × (reserved < 4) ⌝ }
+    ensures { λ _. ⌜ now (option .exit) ≡ optionBytes kind rate ttl nonce reserved ⌝ }
 {
     option[KIND] = kind;
     option[LENGTH] = OPTION_LENGTH as u8;
-    option[RATE] = third;
-    option[TTL] = fourth;
-    option[WORD] = (word / 16_777_216) as u8;
-    option[WORD + 1] = (word / 65_536 % 256) as u8;
-    option[WORD + 2] = (word / 256 % 256) as u8;
-    option[WORD + 3] = (word % 256) as u8;
+    option[RATE] = rate;
+    option[TTL] = ttl;
+    option[WORD] = (nonce / 4_194_304) as u8;
+    option[WORD + 1] = (nonce / 16_384 % 256) as u8;
+    option[WORD + 2] = (nonce / 64 % 256) as u8;
+    option[WORD + 3] = (nonce % 64 * 4 + reserved) as u8;
 }
 
 // Writes an option anew into a buffer of exactly eight bytes, with the reserved bits 0.
-fn write_option(option: &mut [u8], kind: u8, rate: u32, fourth: u8, nonce: u32) -> Written
-    ensures answer { λ r. ⌜ writtenTold r ≡ done (optionWritten kind (now (option .entry)) rate fourth nonce) ⌝ }
-    ensures buffer { λ _. ⌜ now (option .exit) ≡ leaves (now (option .entry)) (optionWritten kind (now (option .entry)) rate fourth nonce) ⌝ }
+fn write_option(option: &mut [u8], kind: u8, rate: u32, ttl: u8, nonce: u32) -> Written
+    ensures answer { λ r. ⌜ writtenTold r ≡ done (optionWritten kind (now (option .entry)) rate ttl nonce) ⌝ }
+    ensures buffer { λ _. ⌜ now (option .exit) ≡ leaves (now (option .entry)) (optionWritten kind (now (option .entry)) rate ttl nonce) ⌝ }
 {
     if !fields_fit(option.len(), rate, nonce) {
         return Written::Refused(Refusal::OutOfRange);
     }
-    put(option, kind, rate as u8, fourth, nonce * 4);
+    put(option, kind, rate as u8, ttl, nonce, 0);
     Written::Done
 }

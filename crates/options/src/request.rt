@@ -33,7 +33,8 @@ pub enum Reading {
     Refused(Refusal),
 }
 
-// Whether eight bytes are a request: its type, its length, and 0 in the high half of the rate's byte.
+// Whether eight bytes are a request: its type, its length, and function 0 in the high half of the
+// rate's byte.
 fn is_request(option: &[u8]) -> bool
     requires { ⌜ length (now option) ≡ optionLength ⌝ }
     ensures { λ r. ⌜ r ≡ isRequest (now (option .entry)) ⌝ }
@@ -73,6 +74,7 @@ pub fn write(option: &mut [u8], rate: u32, qs_ttl: u8, nonce: u32) -> Written
 }
 
 // Writes another rate, QS TTL and nonce into a request in place. The reserved bits stay as they came.
+// What is no request is not rewritten: it is refused with 4.
 pub fn rewrite(option: &mut [u8], rate: u32, qs_ttl: u8, nonce: u32) -> Written
     ensures answer { λ r. ⌜ writtenTold r ≡ done (requestRewritten (now (option .entry)) rate «qs_ttl» nonce) ⌝ }
     ensures buffer { λ _. ⌜ now (option .exit) ≡ leaves (now (option .entry)) (requestRewritten (now (option .entry)) rate «qs_ttl» nonce) ⌝ }
@@ -84,6 +86,6 @@ pub fn rewrite(option: &mut [u8], rate: u32, qs_ttl: u8, nonce: u32) -> Written
         return Written::Refused(Refusal::NoRequest);
     }
     let reserved = word_of(option) % 4;
-    put(option, REQUEST, rate as u8, qs_ttl, nonce * 4 + reserved);
+    put(option, REQUEST, rate as u8, qs_ttl, nonce, reserved);
     Written::Done
 }

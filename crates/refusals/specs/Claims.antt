@@ -4,7 +4,7 @@ use mathlib.Core.Path.{_≡_}
 use Rattle.refusals.specs.declared.Refusal.{Refusal}
 use Rattle.refusals.specs.Numbers.{numberOf}
 
--- the table is fixed: each number from 1 to 15 has one case, and no two cases share a number
+-- the numbers are 1 to 15, each the number of exactly one case
 pub record Table : Type 0 where
   pub low : (a : Refusal) → 1 ≤ numberOf a
   pub high : (a : Refusal) → numberOf a ≤ 15

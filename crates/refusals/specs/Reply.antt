@@ -5,7 +5,7 @@ pub data Reply (A : Type 0) : Type 0 where
   answer : A → Reply A
   refuse : ℕ → Reply A
 
--- "a refused call changes nothing": what a lent buffer or a record is afterwards, where the reply holds the new one
+-- what a lent buffer is after a call whose refusals change nothing: the new one that the reply holds, or the old one
 abbrev pub leaves : {A : Type 0} → A → Reply A → A
 leaves old (answer new) = new
 leaves old (refuse n) = old

@@ -19,11 +19,11 @@ pub enum Refusal {
     TtlExpired,
     // A number or a buffer's length is outside its range.
     OutOfRange,
-    // The total of a ledger's row is above its allowance.
+    // The total of a ledger's row is above the allowance.
     OverAllowance,
     // A time or a tick lies before the stored one.
     TimeBackwards,
-    // A request is open, or the last one is less than a round trip ago.
+    // The connection is asked or quick, or its last request is less than a round trip ago.
     TooSoon,
     // The call does not fit the connection's state.
     WrongState,

@@ -1,7 +1,5 @@
 -- `options::put` meets its contract: eight stores one after the other leave the eight bytes. Assumes nothing.
 use native.Mathlib.Omega.{arith}
-use Prim.Native.Nat.{_/_, _%_}
-use mathlib.Core.List.{[], _∷_}
 use mathlib.Core.Path.{_∙_}
 use lib.ListN.{length-set, drop-of-length-le}
 use lib.Seq.{sets-eq}
@@ -49,11 +47,17 @@ add-option-2 c = search needs
 slice-write-option-7 : tie.Need-slice-write-option-7
 slice-write-option-7 c = simp length-set (omega arith)
 
-cast-option-5 : tie.Need-cast-option-5
-cast-option-5 c = search needs
+mul-option : tie.Need-mul-option
+mul-option c = search needs
 
 add-option-3 : tie.Need-add-option-3
 add-option-3 c = search needs
+
+cast-option-5 : tie.Need-cast-option-5
+cast-option-5 c = search needs
+
+add-option-4 : tie.Need-add-option-4
+add-option-4 c = search needs
 
 slice-write-option-8 : tie.Need-slice-write-option-8
 slice-write-option-8 c = simp length-set (omega arith)
@@ -65,7 +69,7 @@ returns : tie.Need-returns
 unfolding optionBytes
 returns c =
     let a = c .args in
-    sets-eq (optionBytes (a .kind) (a .third) (a .fourth) (a .word)) (a .option .now) 0 (omega arith)
+    sets-eq (optionBytes (a .kind) (a .rate) (a .ttl) (a .nonce) (a .reserved)) (a .option .now) 0 (omega arith)
     ∙ simp (drop-of-length-le (a .option .now) {i = 8} (omega arith))
 
 pub put-spec : {M : Type 1} → statement M
@@ -85,8 +89,10 @@ put-spec =
     cast-option-4
     add-option-2
     slice-write-option-7
-    cast-option-5
+    mul-option
     add-option-3
+    cast-option-5
+    add-option-4
     slice-write-option-8
     same-length
     returns)

@@ -25,11 +25,8 @@ known c = let e = sym (c .before .fields-fit .ensures) ∙ not-false _ (c .if1 .
 cast-put : tie.Need-cast-put
 cast-put c = let k = known (c .before) .0 in omega arith
 
-mul-put : tie.Need-mul-put
-mul-put c = let k = known (c .before) .0 in omega arith
-
 put-requires : tie.Need-put-requires
-put-requires c κs = known (c .before) .0 .len-is
+put-requires c κs = let k = known (c .before) .0 in omega arith
 
 same-length : tie.Need-same-length
 same-length c = search needs
@@ -40,4 +37,4 @@ returns-2 c = let e = known (c .before .before .before .before) .1 in (simp e, s
 pub write-option-spec : {M : Type 1} → statement M
 write-option-spec =
     tie.close
-    (tie.spec fields-fit-requires returns cast-put mul-put put-requires same-length returns-2)
+    (tie.spec fields-fit-requires returns cast-put put-requires same-length returns-2)

@@ -44,14 +44,8 @@ word-of-requires c κs = fits (c .before .before .before .before) .0 .len-is
 cast-put : tie.Need-cast-put
 cast-put c = let k = fits (c .before .before .before .before .before .before) .0 in omega arith
 
-mul-put : tie.Need-mul-put
-mul-put c = let k = fits (c .before .before .before .before .before .before) .0 in omega arith
-
-add-put : tie.Need-add-put
-add-put c = let k = fits (c .before .before .before .before .before .before) .0 in omega arith
-
 put-requires : tie.Need-put-requires
-put-requires c κs = fits (c .before .before .before .before .before .before) .0 .len-is
+put-requires c κs = let k = fits (c .before .before .before .before .before .before) .0 in omega arith
 
 same-length-2 : tie.Need-same-length-2
 same-length-2 c = search needs
@@ -73,8 +67,6 @@ rewrite-spec =
     returns-2
     word-of-requires
     cast-put
-    mul-put
-    add-put
     put-requires
     same-length-2
     returns-3)

@@ -1,11 +1,11 @@
--- `options::nonce::power` meets its contract. Assumes nothing.
+-- `options::nonce::four_to` meets its contract. Assumes nothing.
 use native.Mathlib.Omega.{arith}
 use lib.Dec.{lit<}
 use Rattle.common.proofs.Digits.{power-pos}
 use Rattle.options.proofs.NonceLaws.{shifted}
 use borrow.Author.Needs.{needs}
-use Rattle.options.proofs.nonce.power.Statement.{statement}
-use Rattle.options.proofs.nonce.power.Tie as tie
+use Rattle.options.proofs.nonce.four_to.Statement.{statement}
+use Rattle.options.proofs.nonce.four_to.Tie as tie
 
 mul-result : tie.Need-mul-result
 mul-result c = search needs
@@ -16,5 +16,5 @@ shl-result c = search needs
 returns : tie.Need-returns
 returns c = let e = shifted (c .args .code) (c .pre) in (e, rw e (power-pos 4 (lit< tt) (c .args .code)))
 
-pub power-spec : {M : Type 1} → statement M
-power-spec = tie.close (tie.spec mul-result shl-result returns)
+pub four-to-spec : {M : Type 1} → statement M
+four-to-spec = tie.close (tie.spec mul-result shl-result returns)
