@@ -274,9 +274,15 @@ fn requests() {
     rewrite_request(&mut option, 16, 0, 0);
     rewrite_request(&mut option, 0, 0, 1_073_741_824);
     rewrite_request(&mut option, 0, 0, 0);
-    let mut reserved = [25, 8, 5, 128, 0, 0, 0, 3];
-    read_request(&reserved);
-    rewrite_request(&mut reserved, 3, 127, 960);
+}
+
+fn reserved_bits() {
+    let mut option = [25, 8, 5, 128, 0, 0, 0, 3];
+    read_request(&option);
+    rewrite_request(&mut option, 3, 127, 960);
+}
+
+fn no_requests() {
     let mut report = [25, 8, 133, 0, 0, 0, 0, 0];
     read_request(&report);
     rewrite_request(&mut report, 3, 127, 960);
@@ -330,6 +336,8 @@ fn main() {
     extremes();
     windows();
     requests();
+    reserved_bits();
+    no_requests();
     responses();
     nonces();
 }
