@@ -1,10 +1,10 @@
 -- Laws of choices by a test: how to prove something of a choice, and how a choice that equals a value is read. Assumes nothing.
 use Prim.Native.Nat.{ℕ, _≤_, _<_}
-use mathlib.Core.Bool.{Bool, true, false, _&&_}
+use mathlib.Core.Bool.{Bool, true, false, not, _&&_}
 use mathlib.Core.Logic.{_⊎_, inl, inr}
-use mathlib.Core.Path.{_≡_, refl, sym}
+use mathlib.Core.Path.{_≡_, refl, sym, _∙_}
 use lib.Dec.{leb, ltb, eqb}
-use borrow.Author.Tests.{lt-ltb, le-ltb, le-leb, lt-leb, eq-eqb, ne-eqb, leb-true, leb-false, ltb-true, ltb-false, eqb-true, eqb-false}
+use borrow.Author.Tests.{lt-ltb, le-ltb, le-leb, lt-leb, eq-eqb, ne-eqb, leb-true, leb-false, ltb-true, ltb-false, eqb-true, eqb-false, not-true, not-false}
 use Rattle.common.specs.Choice.{pick, within}
 
 -- `search tests` closes a return whose contract chooses by the very tests that led there
@@ -24,6 +24,13 @@ module _ {A : Type 0} (P : A → Type 0) (a b : ℕ) {x y : A} where
 
   pub by-eqb : (a ≡ b → P x) → ((a ≡ b → ⊥) → P y) → P (pick (eqb a b) x y)
   by-eqb f g = by-test P (eqb a b) (λ e. f (eqb-true a b e)) (λ e. g (eqb-false a b e))
+
+-- a call whose answer r is the test t: what is known of the test past `if !r { return .. }`, and in its arm
+pub held : (r t : Bool) → r ≡ t → not r ≡ false → t ≡ true
+held r t e n = sym e ∙ not-false r n
+
+pub failed : (r t : Bool) → r ≡ t → not r ≡ true → t ≡ false
+failed r t e n = sym e ∙ not-true r n
 
 -- one number is at most another, or above it
 pub le-or-gt : (a b : ℕ) → (a ≤ b) ⊎ (b < a)

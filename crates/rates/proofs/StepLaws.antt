@@ -46,9 +46,13 @@ power-small c h = pow-mono h
 
 -- ---- rounding down
 
+zero-fits : (bits : ℕ) → rateOf 0 ≤ bits
+unfolding rateOf
+zero-fits bits = zero-le
+
 pub greatest-rule : (top bits : ℕ) → Greatest top bits (greatestUpTo top bits)
-unfolding greatestUpTo rateOf
-greatest-rule zero bits = record { up-to = le-refl 0; fits = zero-le; greatest = λ d h f. h }
+unfolding greatestUpTo
+greatest-rule zero bits = record { up-to = le-refl 0; fits = zero-fits bits; greatest = λ d h f. h }
 greatest-rule (suc n) bits =
     let ih = greatest-rule n bits in
     by-leb (Greatest (suc n) bits) (rateOf (suc n)) bits
@@ -56,8 +60,9 @@ greatest-rule (suc n) bits =
     (λ g. record {
       up-to = le-trans (ih .up-to) (omega arith);
       fits = ih .fits;
-      greatest = λ d h f. ⊎-elim
-          (λ e. absurd (not-le-of-lt g (subst (λ (k : ℕ). rateOf k ≤ bits) e f)))
+      greatest = λ d h f.
+          ⊎-elim
+          (λ e. let own : rateOf (suc n) ≤ bits = subst (λ (k : ℕ). rateOf k ≤ bits) e f in absurd (omega arith))
           (λ l. ih .greatest d (omega arith) f)
           (eq-or-lt-of-le h);
     })
@@ -152,7 +157,7 @@ least-rule (suc tries) code wish e low =
 
 pub up-rule : (wish : ℕ) → 1 ≤ wish → Least wish (roundedUp wish)
 unfolding roundedUp rateOf
-up-rule wish h = least-rule 14 1 wish refl (λ d l. let e : 0 ≡ d = omega arith in subst (λ (k : ℕ). rateOf k < wish) e h)
+up-rule wish h = least-rule _ _ wish refl (λ d l. let e : 0 ≡ d = omega arith in subst (λ (k : ℕ). rateOf k < wish) e h)
 
 -- one more than the code rounded down from just below the wish
 pub up-by-down : (w : ℕ) → min topCode (suc (roundedDown w)) ≡ roundedUp (suc w)

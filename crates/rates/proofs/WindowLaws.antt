@@ -1,4 +1,4 @@
--- Laws of the Quick-Start window: what its ranges say, and that every product of it fits 64 bits. Assumes nothing.
+-- Laws of the Quick-Start window: what its ranges say, its rule, and that every product of it fits 64 bits. Assumes nothing.
 use Prim.Native.Nat.{ℕ, _+_, _*_, _/_, _^_, _≤_, _<_}
 use mathlib.Core.Bool.{true, _&&_}
 use mathlib.Core.Path.{_≡_, sym, ap, subst, _∙_}
@@ -36,7 +36,27 @@ transport-facts rtt mss headers e =
       headers-high = within-high leastHeaders headers mostHeaders (outer .1);
     }
 
--- the bytes of a round rtt, in millionths
+-- ---- the window's rule
+
+-- the same quotient, with both sides eight times as large
+eightfold : (rate sent q d : ℕ) → rate ≡ 8 * sent → q * d ≤ sent → sent < (q + 1) * d → (q * (8 * d) ≤ rate) × (rate < (q + 1) * (8 * d))
+eightfold rate sent q d e l h = (let x = mul-left-comm q 8 d in omega arith, let x = mul-left-comm (q + 1) 8 d in omega arith)
+
+pub window-rule : (code rtt mss headers : ℕ) → 1 ≤ code → 1 ≤ mss → WindowRule code rtt mss headers
+unfolding windowSegments
+window-rule code rtt mss headers c m =
+    let sent = 5000 * 2 ^ code * rtt in
+    let d = 1000000 * (mss + headers) in
+    let q = windowSegments code rtt mss headers in
+    let r : rateOf code ≡ 40000 * 2 ^ code = rate-from code c in
+    let s : rateOf code * rtt ≡ 8 * sent = ap (λ (k : ℕ). k * rtt) {x = rateOf code} {y = 8 * (5000 * 2 ^ code)} (omega arith) ∙ mul-assoc 8 (5000 * 2 ^ code) rtt in
+    let p = eightfold (rateOf code * rtt) sent q d s (div-mul-le-self sent d) (div-lt-iff-lt-mul (omega arith) .0 (omega arith)) in
+    let e : 8 * d ≡ 8 * 1000000 * (mss + headers) = omega arith in
+    record { fits = subst (λ (k : ℕ). q * k ≤ rateOf code * rtt) e (p .0); one-more = subst (λ (k : ℕ). rateOf code * rtt < (q + 1) * k) e (p .1) }
+
+-- ---- what the code computes
+
+-- the bytes of a round trip, in millionths
 pub sent-fits : (code rtt : ℕ) → code ≤ topCode → rtt ≤ longestRtt → 5000 * 2 ^ code * rtt < 2 ^ 64
 sent-fits code rtt c t =
     let p : 5000 * 2 ^ code * rtt ≤ 163840000 * 60000000 = mul-le-mul (mul-le-mul-left 5000 (power-small code c)) t in
@@ -64,21 +84,3 @@ pub bytes-refused : (code rtt mss headers n : ℕ) → refuse n ≡ segmentsRepl
 bytes-refused code rtt mss headers n e =
     let r = refused (windowInRange code rtt mss headers) (windowSegments code rtt mss headers) n 7 e in
     simp (r .0, r .1)
-
--- ---- the window's rule
-
--- the same quotient, with both sides eight times as large
-eightfold : (rate sent q d : ℕ) → rate ≡ 8 * sent → q * d ≤ sent → sent < (q + 1) * d → (q * (8 * d) ≤ rate) × (rate < (q + 1) * (8 * d))
-eightfold rate sent q d e l h = (let x = mul-left-comm q 8 d in omega arith, let x = mul-left-comm (q + 1) 8 d in omega arith)
-
-pub window-rule : (code rtt mss headers : ℕ) → 1 ≤ code → 1 ≤ mss → WindowRule code rtt mss headers
-unfolding windowSegments
-window-rule code rtt mss headers c m =
-    let sent = 5000 * 2 ^ code * rtt in
-    let d = 1000000 * (mss + headers) in
-    let q = windowSegments code rtt mss headers in
-    let r : rateOf code ≡ 40000 * 2 ^ code = rate-from code c in
-    let s : rateOf code * rtt ≡ 8 * sent = ap (λ (k : ℕ). k * rtt) {x = rateOf code} {y = 8 * (5000 * 2 ^ code)} (omega arith) ∙ mul-assoc 8 (5000 * 2 ^ code) rtt in
-    let p = eightfold (rateOf code * rtt) sent q d s (div-mul-le-self sent d) (div-lt-iff-lt-mul (omega arith) .0 (omega arith)) in
-    let e : 8 * d ≡ 8 * 1000000 * (mss + headers) = omega arith in
-    record { fits = subst (λ (k : ℕ). q * k ≤ rateOf code * rtt) e (p .0); one-more = subst (λ (k : ℕ). rateOf code * rtt < (q + 1) * k) e (p .1) }

@@ -93,7 +93,7 @@ pub fn round_up(wish: u64) -> Code
     Code::Is(below + 1)
 }
 
-// Whether round rtt, segment size and the headers' length are in their ranges.
+// Whether round trip, segment size and the headers' length are in their ranges.
 pub fn transport_in_range(rtt: u64, mss: u64, headers: u64) -> bool
     ensures { λ r. ⌜ r ≡ transportInRange rtt mss headers ⌝ }
 {
@@ -106,7 +106,7 @@ pub fn transport_in_range(rtt: u64, mss: u64, headers: u64) -> bool
     in_range(LEAST_HEADERS, headers, MOST_HEADERS)
 }
 
-// The Quick-Start window of a code 1 to 15 in segments: what the code's rate sends in a round rtt
+// The Quick-Start window of a code 1 to 15 in segments: what the code's rate sends in a round trip
 // of `rtt` microseconds, in whole segments of `mss` bytes that carry `headers` bytes besides.
 pub fn window_segments(code: u32, rtt: u64, mss: u64, headers: u64) -> Window
     ensures { λ r. ⌜ windowTold r ≡ segmentsReply code rtt mss headers ⌝ }

@@ -1,15 +1,15 @@
 -- `rates::rate_of` meets its contract. Assumes nothing.
-use Prim.Native.Nat.{_≤_}
+use Prim.Native.Nat.{_≤_, _<_}
 use native.Mathlib.Omega.{arith}
 use borrow.Author.Tests.{lt-leb, le-leb}
-use Rattle.rates.specs.Steps.{rateOf}
+use Rattle.rates.specs.Steps.{topCode, rateOf}
 use Rattle.rates.proofs.StepLaws.{rate-from, power-small}
 use borrow.Author.Needs.{needs}
 use Rattle.rates.proofs.rate_of.Statement.{statement}
 use Rattle.rates.proofs.rate_of.Tie as tie
 
 returns : tie.Need-returns
-returns c = simp (lt-leb _ _ (c .if1 .taken))
+returns c = let above : topCode < c .before .args .code = omega arith in simp (lt-leb _ _ above)
 
 returns-2 : tie.Need-returns-2
 unfolding rateOf

@@ -1,9 +1,9 @@
 -- `options::request::rewrite` meets its contract: either nothing is written and the refusal is answered, or all eight bytes are. Assumes nothing.
 use native.Mathlib.Omega.{arith}
-use mathlib.Core.Path.{_≡_, sym, _∙_}
+use mathlib.Core.Path.{_≡_}
 use mathlib.Core.Bool.{true}
 use lib.ListN.{length}
-use borrow.Author.Tests.{not-true, not-false}
+use Rattle.common.proofs.Choice.{held, failed}
 use Rattle.options.specs.Wire.{fieldsFit}
 use Rattle.options.specs.Requests.{isRequest}
 use Rattle.options.proofs.WireLaws.{Fit, fit-facts}
@@ -18,13 +18,16 @@ fields-fit-requires c κs = search needs
 fits : (c : tie.Else1) →
     let a = c .before .before .before .args in
     Fit (length (a .option .now)) (a .rate) (a .nonce) × (fieldsFit (length (a .option .now)) (a .rate) (a .nonce) ≡ true)
-fits c = let e = sym (c .before .fields-fit .ensures) ∙ not-false _ (c .if1 .left) in (fit-facts _ _ _ e, e)
+fits c = let e = held _ _ (c .before .fields-fit .ensures) (c .if1 .left) in (fit-facts _ _ _ e, e)
 
 request : (c : tie.Else2) → isRequest (c .before .before .before .before .before .before .args .option .now) ≡ true
-request c = sym (c .before .is-request .ensures) ∙ not-false _ (c .if2 .left)
+request c = held _ _ (c .before .is-request .ensures) (c .if2 .left)
 
 returns : tie.Need-returns
-returns c = let e = sym (c .before .fields-fit .ensures) ∙ not-true _ (c .if1 .taken) in (simp e, simp e)
+returns c =
+    let a = c .before .before .before .args in
+    let e = failed _ (fieldsFit (length (a .option .now)) (a .rate) (a .nonce)) (c .before .fields-fit .ensures) (c .if1 .taken) in
+    (simp e, simp e)
 
 is-request-requires : tie.Need-is-request-requires
 is-request-requires c κs = fits (c .before) .0 .len-is
@@ -35,7 +38,7 @@ same-length c = search needs
 returns-2 : tie.Need-returns-2
 returns-2 c =
     let e = fits (c .before .before .before) .1 in
-    let n = sym (c .before .is-request .ensures) ∙ not-true _ (c .if2 .taken) in
+    let n = failed _ _ (c .before .is-request .ensures) (c .if2 .taken) in
     (simp (e, n), simp (e, n))
 
 word-of-requires : tie.Need-word-of-requires

@@ -1,7 +1,6 @@
 -- `options::response::read` meets its contract: each return says how the tests fell, and what was read stands at its place. Assumes nothing.
-use mathlib.Core.Path.{sym, _∙_}
-use borrow.Author.Tests.{eq-eqb, not-true, not-false}
-use Rattle.common.proofs.Choice.{tests}
+use borrow.Author.Tests.{eq-eqb}
+use Rattle.common.proofs.Choice.{tests, held, failed}
 use borrow.Author.Needs.{needs}
 use Rattle.options.proofs.response.read.Statement.{statement}
 use Rattle.options.proofs.response.read.Tie as tie
@@ -13,7 +12,7 @@ is-response-requires : tie.Need-is-response-requires
 is-response-requires c κs = search needs
 
 returns-2 : tie.Need-returns-2
-returns-2 c = simp (eq-eqb _ _ (c .before .before .if1 .left), sym (c .before .is-response .ensures) ∙ not-true _ (c .if2 .taken))
+returns-2 c = simp (eq-eqb _ _ (c .before .before .if1 .left), failed _ _ (c .before .is-response .ensures) (c .if2 .taken))
 
 byte-at-requires : tie.Need-byte-at-requires
 byte-at-requires c κs = search needs
@@ -27,7 +26,7 @@ word-of-requires c κs = search needs
 returns-3 : tie.Need-returns-3
 returns-3 c =
     simp
-    (eq-eqb _ _ (c .before .before .before .before .before .if1 .left), sym (c .before .before .before .before .is-response .ensures) ∙ not-false _ (c .before .before .before .if2 .left), c .before .before .byte-at .ensures .0, c .word-of .ensures)
+    (eq-eqb _ _ (c .before .before .before .before .before .if1 .left), held _ _ (c .before .before .before .before .is-response .ensures) (c .before .before .before .if2 .left), c .before .before .byte-at .ensures .0, c .word-of .ensures)
 
 pub read-spec : {M : Type 1} → statement M
 read-spec =
