@@ -3,7 +3,7 @@
 ghost use mathlib.Core.Path.{_≡_};
 ghost use Prim.Native.Nat.{_<_};
 ghost use lib.ListN.{length, getD};
-ghost use Rattle.options.specs.Wire.{optionLength, nonceLimit, wordOf, optionBytes, optionWritten, fieldsFit};
+ghost use Rattle.options.specs.Wire.{optionLength, nonceLimit, wordOf, optionBytes, optionWritten, fieldsFit, rateIn, ttlIn, nonceIn};
 ghost use Rattle.options.specs.Replies.{writtenTold};
 ghost use Rattle.refusals.specs.Reply.{leaves, done};
 use rates::TOP_CODE;
@@ -66,6 +66,24 @@ fn word_of(option: &[u8]) -> u32
     let c = byte_at(option, WORD + 2);
     let d = byte_at(option, WORD + 3);
     a * 16_777_216 + b * 65_536 + c * 256 + d
+}
+
+// The three fields that a request and a response share the places of.
+struct Fields {
+    rate: u32,
+    ttl: u8,
+    nonce: u32,
+}
+
+fn fields_of(option: &[u8]) -> Fields
+    requires { ⌜ length (now option) ≡ optionLength ⌝ }
+    ensures { λ r. ⌜ (r .rate ≡ rateIn (now (option .entry))) × (r .ttl ≡ ttlIn (now (option .entry))) × (r .nonce ≡ nonceIn (now (option .entry))) ⌝ }
+{
+    Fields {
+        rate: byte_at(option, RATE) % 16,
+        ttl: option[TTL],
+        nonce: word_of(option) / 4,
+    }
 }
 
 // Writes all eight bytes.

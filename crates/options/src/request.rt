@@ -10,10 +10,9 @@ use crate::KIND;
 use crate::LENGTH;
 use crate::OPTION_LENGTH;
 use crate::RATE;
-use crate::TTL;
 use crate::Written;
-use crate::byte_at;
 use crate::fields_fit;
+use crate::fields_of;
 use crate::put;
 use crate::word_of;
 use crate::write_option;
@@ -58,10 +57,11 @@ pub fn read(option: &[u8]) -> Reading
     if !is_request(option) {
         return Reading::Refused(Refusal::NoRequest);
     }
+    let fields = fields_of(option);
     Reading::Request(Request {
-        rate: byte_at(option, RATE) % 16,
-        qs_ttl: option[TTL],
-        nonce: word_of(option) / 4,
+        rate: fields.rate,
+        qs_ttl: fields.ttl,
+        nonce: fields.nonce,
     })
 }
 

@@ -9,11 +9,8 @@ ghost use Rattle.refusals.specs.Reply.{leaves, done};
 use crate::KIND;
 use crate::LENGTH;
 use crate::OPTION_LENGTH;
-use crate::RATE;
-use crate::TTL;
 use crate::Written;
-use crate::byte_at;
-use crate::word_of;
+use crate::fields_of;
 use crate::write_option;
 use refusals::Refusal;
 
@@ -52,10 +49,11 @@ pub fn read(option: &[u8]) -> Reading
     if !is_response(option) {
         return Reading::Refused(Refusal::NoResponse);
     }
+    let fields = fields_of(option);
     Reading::Response(Response {
-        rate: byte_at(option, RATE) % 16,
-        ttl_diff: option[TTL],
-        nonce: word_of(option) / 4,
+        rate: fields.rate,
+        ttl_diff: fields.ttl,
+        nonce: fields.nonce,
     })
 }
 
