@@ -1,5 +1,5 @@
 -- The claims of specs/Claims.antt: the round trips, from the laws of the eight bytes, and the lowering, from the laws of the nonce. Assumes nothing.
-use Prim.Native.Nat.{ℕ, _+_, _*_, _/_, _%_, _^_, _≤_, _<_}
+use Prim.Native.Nat.{ℕ, _+_, _*_, _/_, _%_, _≤_, _<_}
 use mathlib.Core.Bool.{true, _&&_}
 use mathlib.Core.List.{List}
 use mathlib.Core.Path.{_≡_, refl, sym, ap, _∙_}
@@ -8,14 +8,14 @@ use borrow.Author.Tests.{eq-eqb, le-leb, lt-ltb, eqb-true}
 use lib.Dec.{eqb}
 use lib.ListN.{length, getD}
 use Rattle.common.proofs.Choice.{both-true}
-use Rattle.refusals.specs.Reply.{answer, refuse}
-use Rattle.refusals.proofs.ReplyLaws.{passed, answered, same-answer}
+use Rattle.refusals.specs.Reply.{answer}
+use Rattle.refusals.proofs.ReplyLaws.{passed, answered}
 use Rattle.rates.specs.Steps.{topCode}
 use Rattle.options.specs.declared.request.Request.{Request}
 use Rattle.options.specs.declared.response.Response.{Response}
-use Rattle.options.specs.Wire.{optionLength, nonceLimit, fieldsFit, optionBytes, optionWritten, kindIn, lengthIn, highHalf, rateIn, ttlIn, wordOf, nonceIn, reservedIn}
-use Rattle.options.specs.Requests.{isRequest, requestRead, requestWritten, requestRewritten}
-use Rattle.options.specs.Responses.{isResponse, responseRead, responseWritten}
+use Rattle.options.specs.Wire.{optionLength, nonceLimit, fieldsFit, optionBytes, optionWritten, kindIn, lengthIn, highHalf, rateIn, ttlIn, nonceIn, reservedIn}
+use Rattle.options.specs.Requests.{isRequest, requestRead, requestRewritten}
+use Rattle.options.specs.Responses.{isResponse, responseRead}
 use Rattle.options.specs.Claims.{Bytes, RequestRoundTrip, ResponseRoundTrip, Lowering, Agreeing}
 use Rattle.options.proofs.WireLaws.{Fit, fit-facts, word-back, word-small, bytes-back}
 use Rattle.options.proofs.NonceLaws as nonces

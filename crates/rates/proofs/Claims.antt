@@ -1,11 +1,11 @@
 -- The claims of specs/Claims.antt, from the laws of the steps and of the window. Assumes nothing.
-use Prim.Native.Nat.{ℕ, suc, _≤_, _<_}
-use mathlib.Core.Path.{_≡_, sym}
+use Prim.Native.Nat.{ℕ, _≤_}
+use mathlib.Core.Path.{sym}
 use mathlib.Core.Logic.{⊎-elim}
 use native.Mathlib.Nat.{le-refl, le-trans, not-le-of-lt}
 use native.Mathlib.Omega.{arith}
 use Rattle.common.proofs.Choice.{le-or-gt}
-use Rattle.rates.specs.Steps.{topCode, rateOf, roundedDown, roundedUp, Greatest, Least}
+use Rattle.rates.specs.Steps.{topCode, rateOf, roundedDown, roundedUp}
 use Rattle.rates.specs.Claims.{Increasing, RoundingDown, RoundingUp, Windows}
 use Rattle.rates.proofs.StepLaws as steps
 use Rattle.rates.proofs.WindowLaws.{window-rule}

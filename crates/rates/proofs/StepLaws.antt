@@ -3,12 +3,11 @@
 use Prim.Native.Nat.{ℕ, zero, suc, _+_, _-_, _*_, _/_, _^_, _≤_, _<_, min, zero-le}
 use mathlib.Core.Logic.{_⊎_, inl, inr, ⊎-elim}
 use mathlib.Core.Path.{_≡_, refl, sym, subst, _∙_}
-use native.Mathlib.Nat.{le-refl, le-trans, le-antisymm, lt-irrefl, lt-of-lt-of-le, lt-of-le-of-lt, le-of-lt, not-le-of-lt, lt-of-not-le, eq-or-lt-of-le, eq-zero-or-pos, div-le-self, mul-le-mul-left, mul-lt-mul-of-pos-left, mul-comm, le-div-iff-mul-le, div-lt-iff-lt-mul, min-le-left, min-le-right}
+use native.Mathlib.Nat.{le-refl, le-trans, le-antisymm, lt-irrefl, lt-of-lt-of-le, lt-of-le-of-lt, le-of-lt, not-le-of-lt, lt-of-not-le, eq-or-lt-of-le, eq-zero-or-pos, div-le-self, mul-le-mul-left, mul-lt-mul-of-pos-left, le-div-iff-mul-le, div-lt-iff-lt-mul, min-le-left, min-le-right}
 use native.Mathlib.Omega.{arith}
 use lib.Count.{leadingZeros, leading-top}
-use lib.Dec.{leb, lit<, lit≤}
+use lib.Dec.{lit<}
 use lib.Pow.{pow-pos, pow-mono, pow-lt}
-use Rattle.common.specs.Choice.{pick}
 use Rattle.common.proofs.Choice.{by-leb, le-or-gt}
 use Rattle.rates.specs.Steps.{topCode, rateOf, greatestUpTo, roundedDown, leastFrom, roundedUp, Greatest, Least}
 

@@ -1,7 +1,7 @@
 -- Laws of the Quick-Start window: what its ranges say, its rule, and that every product of it fits 64 bits. Assumes nothing.
-use Prim.Native.Nat.{ℕ, _+_, _*_, _/_, _^_, _≤_, _<_}
+use Prim.Native.Nat.{ℕ, _+_, _*_, _^_, _≤_, _<_}
 use mathlib.Core.Bool.{true, _&&_}
-use mathlib.Core.Path.{_≡_, sym, ap, subst, _∙_}
+use mathlib.Core.Path.{_≡_, ap, subst, _∙_}
 use native.Mathlib.Nat.{le-trans, mul-le-mul, mul-le-mul-left, div-mul-le-self, div-lt-iff-lt-mul, mul-assoc, mul-left-comm}
 use native.Mathlib.Omega.{arith}
 use Rattle.common.specs.Choice.{within}

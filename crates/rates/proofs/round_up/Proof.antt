@@ -2,7 +2,7 @@
 use Prim.Native.Nat.{ℕ, zero, suc, _-_, min}
 use native.Mathlib.Omega.{arith}
 use mathlib.Core.Path.{_≡_, refl, ap, _∙_}
-use borrow.Author.Tests.{lt-leb, le-leb}
+use borrow.Author.Tests.{le-leb}
 use Rattle.refusals.specs.Reply.{answer}
 use Rattle.rates.specs.Steps.{topCode, roundedDown, roundedUp, roundedUpReply}
 use Rattle.rates.proofs.StepLaws.{up-by-down}
