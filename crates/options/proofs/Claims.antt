@@ -7,6 +7,7 @@ use native.Mathlib.Omega.{arith}
 use borrow.Author.Tests.{eq-eqb, le-leb, lt-ltb, eqb-true}
 use lib.Dec.{eqb}
 use lib.ListN.{length, getD}
+use Rattle.common.specs.Lists.{Bytes}
 use Rattle.common.proofs.Choice.{both-true}
 use Rattle.refusals.specs.Reply.{answer}
 use Rattle.refusals.proofs.ReplyLaws.{passed, answered}
@@ -16,7 +17,7 @@ use Rattle.options.specs.declared.response.Response.{Response}
 use Rattle.options.specs.Wire.{optionLength, nonceLimit, fieldsFit, optionBytes, optionWritten, kindIn, lengthIn, highHalf, rateIn, ttlIn, nonceIn, reservedIn}
 use Rattle.options.specs.Requests.{isRequest, requestRead, requestRewritten}
 use Rattle.options.specs.Responses.{isResponse, responseRead}
-use Rattle.options.specs.Claims.{Bytes, RequestRoundTrip, ResponseRoundTrip, Lowering, Agreeing}
+use Rattle.options.specs.Claims.{RequestRoundTrip, ResponseRoundTrip, Lowering, Agreeing}
 use Rattle.options.proofs.WireLaws.{Fit, fit-facts, word-back, word-small, bytes-back}
 use Rattle.options.proofs.NonceLaws as nonces
 

@@ -7,11 +7,11 @@ use native.Mathlib.Omega.{arith}
 use borrow.Author.Tests.{eqb-true, leb-true, ltb-true}
 use lib.Dec.{leb, ltb, eqb}
 use lib.ListN.{length, getD}
+use Rattle.common.specs.Lists.{Bytes}
 use Rattle.common.proofs.Choice.{both-true}
 use Rattle.common.proofs.Lists.{written-out}
 use Rattle.rates.specs.Steps.{topCode}
 use Rattle.options.specs.Wire.{optionLength, nonceLimit, fieldsFit, optionBytes, kindIn, lengthIn, ttlIn, wordOf, nonceIn, reservedIn}
-use Rattle.options.specs.Claims.{Bytes}
 
 pub record Fit (len code nonce : ℕ) : Type 0 where
   pub len-is : len ≡ optionLength

@@ -4,19 +4,16 @@ use Prim.Native.Nat.{ℕ, _+_, _*_, _≤_, _<_}
 use mathlib.Core.Bool.{true}
 use mathlib.Core.List.{List}
 use mathlib.Core.Path.{_≡_}
-use lib.ListN.{length, getD}
+use lib.ListN.{length}
+use Rattle.common.specs.Lists.{Bytes}
 use Rattle.refusals.specs.Reply.{answer}
 use Rattle.rates.specs.Steps.{topCode}
 use Rattle.options.specs.declared.request.Request.{Request}
 use Rattle.options.specs.declared.response.Response.{Response}
 use Rattle.options.specs.Wire.{optionLength, nonceLimit, optionBytes, highHalf, reservedIn}
-use Rattle.options.specs.Requests.{requestRead, requestWritten, requestRewritten}
-use Rattle.options.specs.Responses.{responseRead, responseWritten}
+use Rattle.options.specs.Requests.{requestKind, requestRead, requestWritten, requestRewritten}
+use Rattle.options.specs.Responses.{responseKind, responseRead, responseWritten}
 use Rattle.options.specs.Nonces.{fieldOf, fieldsUpTo, lowered, agree}
-
--- every element is a byte
-abbrev pub Bytes : List ℕ → Type 0
-Bytes option = (i : ℕ) → getD option i 0 < 256
 
 -- `old` is the buffer before a write, and `new` the eight bytes that an accepted write leaves
 pub record RequestRoundTrip : Type 0 where
@@ -40,7 +37,7 @@ pub record RequestRoundTrip : Type 0 where
       → requestRewritten option (r .rate) (r .«qs_ttl») (r .nonce) ≡ answer option
   -- whatever the reserved bits are, the same is read
   pub ignored : (rate ttl nonce reserved : ℕ) → rate ≤ topCode → reserved < 4
-      → requestRead (optionBytes 25 rate ttl nonce reserved) ≡ answer (record { rate = rate; «qs_ttl» = ttl; nonce = nonce })
+      → requestRead (optionBytes requestKind rate ttl nonce reserved) ≡ answer (record { rate = rate; «qs_ttl» = ttl; nonce = nonce })
 
 -- the same of a response; there the high half of the rate's byte is reserved too
 pub record ResponseRoundTrip : Type 0 where
@@ -52,7 +49,7 @@ pub record ResponseRoundTrip : Type 0 where
   pub again : (option : List ℕ) (r : Response) → Bytes option → responseRead option ≡ answer r → highHalf option ≡ 0 → reservedIn option ≡ 0
       → responseWritten option (r .rate) (r .«ttl_diff») (r .nonce) ≡ answer option
   pub ignored : (high rate diff nonce reserved : ℕ) → rate ≤ topCode → reserved < 4
-      → responseRead (optionBytes 27 (high * 16 + rate) diff nonce reserved) ≡ answer (record { rate = rate; «ttl_diff» = diff; nonce = nonce })
+      → responseRead (optionBytes responseKind (high * 16 + rate) diff nonce reserved) ≡ answer (record { rate = rate; «ttl_diff» = diff; nonce = nonce })
 
 -- what a lowering from `old` to `new` leaves of a nonce: up to the new code, between the two, and above the old one
 pub record Kept (old new nonce fresh after : ℕ) : Type 0 where

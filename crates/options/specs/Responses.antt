@@ -9,9 +9,13 @@ use Rattle.refusals.specs.Reply.{Reply, answer, refuse}
 use Rattle.options.specs.declared.response.Response.{Response}
 use Rattle.options.specs.Wire.{optionLength, optionWritten, kindIn, lengthIn, rateIn, ttlIn, nonceIn}
 
+-- the TCP option's kind
+abbrev pub responseKind : ℕ
+responseKind = 27
+
 -- "kind 27, length 8"
 unfoldable pub isResponse : List ℕ → Bool
-isResponse option = eqb (kindIn option) 27 && eqb (lengthIn option) 8
+isResponse option = eqb (kindIn option) responseKind && eqb (lengthIn option) optionLength
 
 -- 7 for a buffer of another length, then 12 for a "response not of kind 27, length 8"; reserved bits are "ignored when read"
 abbrev pub responseRead : List ℕ → Reply Response
@@ -24,4 +28,4 @@ responseRead option =
 
 -- "27, 8, one byte (high half reserved, low half the code), TTL Diff, the same kind of word"
 abbrev pub responseWritten : List ℕ → ℕ → ℕ → ℕ → Reply (List ℕ)
-responseWritten option rate diff nonce = optionWritten 27 option rate diff nonce
+responseWritten option rate diff nonce = optionWritten responseKind option rate diff nonce

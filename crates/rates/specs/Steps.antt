@@ -46,13 +46,13 @@ leastFrom (suc tries) code wish =
 unfoldable pub roundedUp : ℕ → ℕ
 roundedUp wish = leastFrom (topCode - 1) 1 wish
 
--- "a wish of 0 is refused with 7"
-abbrev pub roundedUpReply : ℕ → Reply ℕ
-roundedUpReply wish = pick (leb 1 wish) (answer (roundedUp wish)) (refuse 7)
-
 -- that rule: `code` is the least code whose rate is at least `wish`, and the highest where no code has such a rate
 pub record Least (wish code : ℕ) : Type 0 where
   pub up-to : code ≤ topCode
   pub enough : wish ≤ rateOf topCode → wish ≤ rateOf code
   pub least : (d : ℕ) → d ≤ topCode → wish ≤ rateOf d → code ≤ d
   pub top : rateOf topCode < wish → code ≡ topCode
+
+-- "a wish of 0 is refused with 7"
+abbrev pub roundedUpReply : ℕ → Reply ℕ
+roundedUpReply wish = pick (leb 1 wish) (answer (roundedUp wish)) (refuse 7)
