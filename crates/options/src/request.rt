@@ -19,7 +19,7 @@ use crate::write_option;
 use refusals::Refusal;
 
 // The option's type.
-const REQUEST: u8 = 25;
+pub const REQUEST: u8 = 25;
 
 pub struct Request {
     pub rate: u32,

@@ -14,3 +14,8 @@ leaves old (refuse n) = old
 abbrev pub done : {A : Type 0} → Reply A → Reply (Unit {0})
 done (answer a) = answer tt
 done (refuse n) = refuse n
+
+-- what follows an answer; a refusal stays what is replied
+abbrev pub andThen : {A B : Type 0} → Reply A → (A → Reply B) → Reply B
+andThen (answer a) next = next a
+andThen (refuse n) next = refuse n

@@ -1,0 +1,160 @@
+-- Laws of the walk: how an option reads in its area, how the walk goes past an option, and what it does with the bytes that it skips. Assumes nothing.
+use Prim.Native.Nat.{ℕ, zero, suc, _+_, _-_, _≤_, _<_}
+use mathlib.Core.Bool.{Bool, true, false, _&&_}
+use mathlib.Core.List.{List, [], _∷_, _++_}
+use mathlib.Core.Path.{_≡_, refl, sym, ap, ap₂, _∙_}
+use native.Mathlib.Nat.{add-zero}
+use native.Mathlib.Omega.{arith}
+use borrow.Author.Tests.{le-leb, lt-leb, leb-true, ne-eqb}
+use lib.Dec.{leb, eqb}
+use lib.ListN.{length, getD, drop, length-drop, drop-of-length-le}
+use lib.Seq.{getD-drop, drop-cons, drop-drop}
+use Rattle.common.specs.Choice.{pick, within}
+use Rattle.common.proofs.Choice.{by-test, by-eqb, within-low, within-high}
+use Rattle.refusals.specs.Reply.{Reply, answer, refuse}
+use Rattle.options.specs.Wire.{optionLength, kindIn, lengthIn}
+use Rattle.options.specs.Requests.{requestKind}
+use Rattle.walk.specs.declared.Place.{Place}
+use Rattle.walk.specs.declared.Place.the-variants.{Nowhere, At}
+use Rattle.walk.specs.Walks.{Next, end, fault, past, endKind, noOperation, lengthFits, quickStart, look, goOn, walkOn, walk}
+
+-- an option's reading by its type, its length byte and the bytes that are left
+abbrev pub lookBy : Place → ℕ → ℕ → ℕ → ℕ → Next
+lookBy place offset kind len room =
+    pick (eqb kind endKind) end
+    (pick (eqb kind noOperation) (past place 1)
+    (pick (within 2 len room) (pick (eqb kind requestKind) (quickStart place offset len) (past place len)) (fault 3)))
+
+pub looked : (place : Place) (offset : ℕ) (area : List ℕ)
+    → look place offset (drop offset area) ≡ lookBy place offset (getD area offset 0) (getD area (offset + 1) 0) (length area - offset)
+unfolding look lengthFits
+looked place offset area = simp (getD-drop offset area 0 0, getD-drop offset area 1 0, length-drop offset area, add-zero offset)
+
+-- with less than two bytes left no length fits
+pub no-room : (len room : ℕ) → room < 2 → within 2 len room ≡ false
+unfolding within
+no-room len room h = go (leb 2 len) refl
+  where
+    go : (t : Bool) → leb 2 len ≡ t → t && leb len room ≡ false
+    go true e = let l = leb-true 2 len e in lt-leb len room (omega arith)
+    go false e = refl
+
+-- a type 25 of another length, whatever was found before it
+pub other-length : (place : Place) (offset len : ℕ) → (len ≡ optionLength → ⊥) → quickStart place offset len ≡ fault 5
+other-length Nowhere offset len h = simp (ne-eqb len optionLength h)
+other-length (At o) offset len h = refl
+
+-- a first type 25 of length 8, and a second one
+pub first : (offset kind len room : ℕ) → kind ≡ requestKind → len ≡ optionLength → len ≤ room → lookBy Nowhere offset kind len room ≡ past (At offset) len
+unfolding within
+first offset kind len room k l r = simp (k, l, le-leb optionLength room (omega arith))
+
+pub second : (o offset kind len room : ℕ) → kind ≡ requestKind → 2 ≤ len → len ≤ room → lookBy (At o) offset kind len room ≡ fault 5
+unfolding within
+second o offset kind len room k l r = simp (k, le-leb 2 len l, le-leb len room r)
+
+-- what is proved of every way that an option can be read holds of its reading
+pub looks : (P : Next → Type 0) (place : Place) (offset : ℕ) (option : List ℕ)
+    → (kindIn option ≡ endKind → P end)
+    → (kindIn option ≡ noOperation → P (past place 1))
+    → (lengthFits option ≡ false → P (fault 3))
+    → (kindIn option ≡ requestKind → P (fault 5))
+    → (place ≡ Nowhere → kindIn option ≡ requestKind → lengthIn option ≡ optionLength → lengthFits option ≡ true → P (past (At offset) (lengthIn option)))
+    → ((kindIn option ≡ endKind → ⊥) → (kindIn option ≡ noOperation → ⊥) → (kindIn option ≡ requestKind → ⊥) → lengthFits option ≡ true → P (past place (lengthIn option)))
+    → P (look place offset option)
+unfolding look
+looks P place offset option e n f q s o =
+    by-eqb P (kindIn option) endKind e
+    (λ no-end. by-eqb P (kindIn option) noOperation n
+    (λ no-filler. by-test P (lengthFits option)
+    (λ fits. by-eqb P (kindIn option) requestKind (λ k. request place k fits s) (λ no-request. o no-end no-filler no-request fits))
+    f))
+  where
+    request : (before : Place) → kindIn option ≡ requestKind → lengthFits option ≡ true
+        → (before ≡ Nowhere → kindIn option ≡ requestKind → lengthIn option ≡ optionLength → lengthFits option ≡ true → P (past (At offset) (lengthIn option)))
+        → P (quickStart before offset (lengthIn option))
+    request Nowhere k fits g = by-eqb P (lengthIn option) optionLength (λ l. g refl k l fits) (λ l. q k)
+    request (At b) k fits g = q k
+
+pub same-past : {p q : Place} {m n : ℕ} → past p m ≡ past q n → (p ≡ q) × (m ≡ n)
+same-past e = ((cc), (cc))
+
+pub fits-low : (option : List ℕ) → lengthFits option ≡ true → 2 ≤ lengthIn option
+unfolding lengthFits
+fits-low option e = within-low 2 (lengthIn option) (length option) e
+
+pub fits-high : (option : List ℕ) → lengthFits option ≡ true → lengthIn option ≤ length option
+unfolding lengthFits
+fits-high option e = within-high 2 (lengthIn option) (length option) e
+
+-- an option that the walk goes past has at least one byte, and lies in the area
+pub past-fits : (place found : Place) (offset len : ℕ) (option : List ℕ) → 1 ≤ length option → look place offset option ≡ past found len
+    → (1 ≤ len) × (len ≤ length option)
+past-fits place found offset len option h =
+    looks (λ (s : Next). s ≡ past found len → (1 ≤ len) × (len ≤ length option)) place offset option
+    (λ k e. let z : _≡_ {A = ℕ} 0 1 = cc in absurd (omega arith))
+    (λ k e. let s : 1 ≡ len = same-past e .1 in (omega arith, omega arith))
+    (λ k e. let z : _≡_ {A = ℕ} 0 1 = cc in absurd (omega arith))
+    (λ k e. let z : _≡_ {A = ℕ} 0 1 = cc in absurd (omega arith))
+    (λ p k l f e. let s : lengthIn option ≡ len = same-past e .1 in (omega (arith, fits-low option f), omega (arith, fits-high option f)))
+    (λ a b d f e. let s : lengthIn option ≡ len = same-past e .1 in (omega (arith, fits-low option f), omega (arith, fits-high option f)))
+
+-- ---- how the walk goes on
+
+-- past the bytes that are still inside an option
+pub inside-of : (place : Place) (offset inside : ℕ) (bytes : List ℕ) → walkOn place offset inside bytes ≡ walkOn place (offset + inside) 0 (drop inside bytes)
+unfolding walkOn
+inside-of place offset zero bytes = ap (λ (k : ℕ). walkOn place k 0 bytes) (sym (add-zero offset))
+inside-of place offset (suc inside) [] = refl
+inside-of place offset (suc inside) (b ∷ rest) =
+    inside-of place (suc offset) inside rest ∙ ap (λ (k : ℕ). walkOn place k 0 (drop inside rest)) {x = suc offset + inside} {y = offset + suc inside} (omega arith)
+
+-- one option further
+pub step : (place : Place) (offset : ℕ) (bytes : List ℕ) → 1 ≤ length bytes
+    → walkOn place offset 0 bytes ≡ goOn place (look place offset bytes) (λ found len. walkOn found (suc offset) (len - 1) (drop 1 bytes))
+unfolding walkOn
+step place offset [] h = absurd (omega arith)
+step place offset (b ∷ rest) h = refl
+
+pub goes-past : (place found : Place) (offset len : ℕ) (bytes : List ℕ) → 1 ≤ length bytes → look place offset bytes ≡ past found len
+    → walkOn place offset 0 bytes ≡ walkOn found (offset + len) 0 (drop len bytes)
+goes-past place found offset len bytes h e =
+    let f = past-fits place found offset len bytes h e in
+    step place offset bytes h
+    ∙ ap (λ (s : Next). goOn place s (λ found len. walkOn found (suc offset) (len - 1) (drop 1 bytes))) e
+    ∙ inside-of found (suc offset) (len - 1) (drop 1 bytes)
+    ∙ ap (λ (l : List ℕ). walkOn found (suc offset + (len - 1)) 0 l) (drop-drop (len - 1) 1 bytes)
+    ∙ ap₂ (λ (k n : ℕ). walkOn found k 0 (drop n bytes)) {x = suc offset + (len - 1)} {y = offset + len} {u = 1 + (len - 1)} {v = len} (omega arith) (omega arith)
+
+-- ---- the walk of a whole area, from an offset on: what it yields there is what it yields in all
+
+module _ (area : List ℕ) (place : Place) (at : ℕ) (same : walkOn place at 0 (drop at area) ≡ walk area) where
+  pub at-last : length area ≤ at → answer place ≡ walk area
+  unfolding walkOn
+  at-last h = ap (λ (l : List ℕ). walkOn place at 0 l) (sym (drop-of-length-le area {i = at} h)) ∙ same
+
+  module _ (inner : at < length area) where
+    left : 1 ≤ length (drop at area)
+    left = rw (length-drop at area) (omega arith)
+
+    pub at-end : end ≡ look place at (drop at area) → answer place ≡ walk area
+    at-end e =
+        ap (λ (s : Next). goOn place s (λ found len. walkOn found (suc at) (len - 1) (drop 1 (drop at area)))) e
+        ∙ sym (step place at (drop at area) left)
+        ∙ same
+
+    pub at-fault : (n : ℕ) → fault n ≡ look place at (drop at area) → refuse n ≡ walk area
+    at-fault n e =
+        ap (λ (s : Next). goOn place s (λ found len. walkOn found (suc at) (len - 1) (drop 1 (drop at area)))) e
+        ∙ sym (step place at (drop at area) left)
+        ∙ same
+
+    pub at-past : (found : Place) (len : ℕ) → past found len ≡ look place at (drop at area)
+        → (1 ≤ len) × (at + len ≤ length area) × (walkOn found (at + len) 0 (drop (at + len) area) ≡ walk area)
+    at-past found len e =
+        let f = past-fits place found at len (drop at area) left (sym e) in
+        let room : len ≤ length area - at = rw (sym (length-drop at area)) (f .1) in (
+          f .0,
+          omega arith,
+          ap (λ (l : List ℕ). walkOn found (at + len) 0 l) (sym (drop-drop len at area)) ∙ sym (goes-past place found at len (drop at area) left (sym e)) ∙ same,
+        )

@@ -1,0 +1,86 @@
+-- `walk::find` meets its contract: what is left to walk from each option on yields what the whole area yields. Assumes nothing.
+use Prim.Native.Nat.{_+_, _-_, _≤_}
+use mathlib.Core.Path.{_≡_, refl, sym, ap, _∙_}
+use native.Mathlib.Omega.{arith}
+use lib.ListN.{length, drop}
+use Rattle.walk.specs.Walks.{walkOn, walk}
+use Rattle.walk.specs.Replies.{stepTold}
+use Rattle.walk.proofs.WalkLaws.{at-last, at-end, at-fault, at-past}
+use borrow.Author.Needs.{needs}
+use Rattle.walk.proofs.find.Statement.{statement}
+use Rattle.walk.proofs.find.Tie as tie
+
+abbrev Inv-walk : tie.InvT-walk
+Inv-walk area place₀ at₀ place at = (at ≤ length area) × (walkOn place at 0 (drop at area) ≡ walk area)
+
+abbrev μ-walk : tie.MeasureT-walk
+μ-walk area place₀ at₀ place at = length area - at
+
+walk-holds : tie.Need-walk-holds Inv-walk μ-walk
+walk-holds c = (omega arith, refl)
+
+look-requires : tie.Need-look-requires Inv-walk μ-walk
+look-requires c κs = search needs
+
+enum-told : tie.Need-enum-told Inv-walk μ-walk
+enum-told c = search needs
+
+enum-known-why : tie.Need-enum-known-why Inv-walk μ-walk
+enum-known-why c = search needs
+
+enum-known-found : tie.Need-enum-known-found Inv-walk μ-walk
+enum-known-found c = search needs
+
+-- what is known past an option
+turned : (c : tie.After-known-told2 Inv-walk μ-walk) →
+    let area = c .before .before .before .before .before .before .before .args .area .now in
+    let at = c .before .before .before .before .before .walk .at in
+    let found = c .before .found .given .0 .0 in
+    let len = c .before .found .given .0 .1 .0 in
+    (1 ≤ len) × (at + len ≤ length area) × (walkOn found (at + len) 0 (drop (at + len) area) ≡ walk area)
+turned c =
+    let w = c .before .before .before .before .before .walk in
+    at-past (c .before .before .before .before .before .before .before .args .area .now) (w .place) (w .at) (w .inv .1) (c .before .before .before .before .if1 .left) _ _
+    (sym (ap stepTold (c .before .found .given .1)) ∙ c .before .before .before .look .ensures)
+
+add-at : tie.Need-add-at Inv-walk μ-walk
+add-at c = let n = turned c in omega (arith, c .before .before .before .before .before .before .before .good)
+
+walk-less : tie.Need-walk-less Inv-walk μ-walk
+walk-less c = let n = turned c in omega arith
+
+walk-again : tie.Need-walk-again Inv-walk μ-walk
+walk-again c = let n = turned c in (n .1, n .2)
+
+returns : tie.Need-returns Inv-walk μ-walk
+returns c = let w = c .before .walk in at-last (c .before .before .before .args .area .now) (w .place) (w .at) (w .inv .1) (c .if1 .taken)
+
+returns-2 : tie.Need-returns-2 Inv-walk μ-walk
+returns-2 c =
+    let w = c .before .before .before .before .walk in
+    at-end (c .before .before .before .before .before .before .args .area .now) (w .place) (w .at) (w .inv .1) (c .before .before .before .if1 .left)
+    (sym (ap stepTold (c .enum-told .given .1)) ∙ c .before .before .look .ensures)
+
+returns-3 : tie.Need-returns-3 Inv-walk μ-walk
+returns-3 c =
+    let w = c .before .before .before .before .before .walk in
+    at-fault (c .before .before .before .before .before .before .before .args .area .now) (w .place) (w .at) (w .inv .1) (c .before .before .before .before .if1 .left) _
+    (sym (ap stepTold (c .before .why .given .1)) ∙ c .before .before .before .look .ensures)
+
+pub find-spec : {M : Type 1} → statement M
+find-spec =
+    tie.close
+    (tie.spec
+    Inv-walk
+    μ-walk
+    walk-holds
+    look-requires
+    enum-told
+    enum-known-why
+    enum-known-found
+    add-at
+    walk-less
+    walk-again
+    returns
+    returns-2
+    returns-3)

@@ -1,0 +1,99 @@
+// The walk of an IPv4 header's options area: where its Quick-Start option stands, if it has one.
+ghost use mathlib.Core.Path.{_≡_};
+ghost use Prim.Native.Nat.{_<_};
+ghost use lib.ListN.{length, drop};
+ghost use Rattle.walk.specs.Walks.{look, walk};
+ghost use Rattle.walk.specs.Replies.{stepTold, findingTold};
+use options::OPTION_LENGTH;
+use options::request::REQUEST;
+use refusals::Refusal;
+
+// The two options of a single byte: the end of the area, and one that is only there to fill it.
+const END: u8 = 0;
+
+const NO_OPERATION: u8 = 1;
+
+// The least length byte: it counts the type and itself.
+const LEAST_LENGTH: usize = 2;
+
+// Where the Quick-Start option stands, by the offset of its type.
+pub enum Place {
+    Nowhere,
+    At(usize),
+}
+
+pub enum Finding {
+    Found(Place),
+    Refused(Refusal),
+}
+
+// What one option means for the walk: it ends here, it is faulty, or it goes on past the option, with
+// what has been found so far.
+enum Step {
+    End,
+    Fault(Refusal),
+    Past { place: Place, length: usize },
+}
+
+// Looks at the option that begins at an offset. A bad length is tested before anything that is
+// special to Quick-Start.
+fn look(area: &[u8], at: usize, place: Place) -> Step
+    requires { ⌜ at < length (now area) ⌝ }
+    ensures { λ r. ⌜ stepTold r ≡ look place at (drop at (now (area .entry))) ⌝ }
+{
+    let kind = area[at];
+    if kind == END {
+        return Step::End;
+    }
+    if kind == NO_OPERATION {
+        return Step::Past { place, length: 1 };
+    }
+    let room = area.len() - at;
+    if room < LEAST_LENGTH {
+        return Step::Fault(Refusal::OptionLength);
+    }
+    let length = area[at + 1] as usize;
+    if length < LEAST_LENGTH {
+        return Step::Fault(Refusal::OptionLength);
+    }
+    if length > room {
+        return Step::Fault(Refusal::OptionLength);
+    }
+    if kind != REQUEST {
+        return Step::Past { place, length };
+    }
+    if length != OPTION_LENGTH {
+        return Step::Fault(Refusal::QuickStartOption);
+    }
+    match place {
+        Place::Nowhere => Step::Past {
+            place: Place::At(at),
+            length,
+        },
+        Place::At(_) => Step::Fault(Refusal::QuickStartOption),
+    }
+}
+
+// Walks an options area from its first byte to its end, a fault or its last byte.
+pub fn find(area: &[u8]) -> Finding
+    ensures { λ r. ⌜ findingTold r ≡ walk (now (area .entry)) ⌝ }
+{
+    let mut place = Place::Nowhere;
+    let mut at = 0;
+    'walk: loop {
+        if at >= area.len() {
+            break Finding::Found(place);
+        }
+        match look(area, at, place) {
+            Step::End => break Finding::Found(place),
+            Step::Fault(why) => break 'walk Finding::Refused(why),
+            Step::Past {
+                place: found,
+                length,
+            } => {
+                place = found;
+                at += length;
+            }
+        }
+    }
+}
