@@ -1,0 +1,3 @@
+pub mod ChecksumLaws
+pub mod HeaderLaws
+pub mod PacketLaws

@@ -1,0 +1,170 @@
+// The IPv4 header of a packet: its check and its checksum, the place of its Quick-Start option, and
+// passing it on. Bytes behind the header are neither read nor changed.
+ghost use mathlib.Core.Path.{_≡_};
+ghost use Prim.Native.Nat.{_+_, _*_, _%_, _<_, _≤_};
+ghost use mathlib.Core.Bool.{true};
+ghost use lib.ListN.{length};
+ghost use Rattle.refusals.specs.Reply.{leaves, done};
+ghost use Rattle.walk.specs.Replies.{findingTold};
+ghost use Rattle.ipv4.specs.Headers.{wordAt, headerLength};
+ghost use Rattle.ipv4.specs.Checksums.{allOnes, onesSum, withChecksum, sealed};
+ghost use Rattle.ipv4.specs.Checks.{wellFormed, headerChecked};
+ghost use Rattle.ipv4.specs.Packets.{located, forwarded};
+ghost use Rattle.ipv4.specs.Replies.{checkedTold, forwardedTold};
+use refusals::Refusal;
+use walk::Finding;
+use walk::Place;
+
+pub mod ecn;
+
+// Where the fields stand.
+const VERSION_AND_LENGTH: usize = 0;
+
+const TOTAL_LENGTH: usize = 2;
+
+const TTL: usize = 8;
+
+const CHECKSUM: usize = 10;
+
+const OPTIONS: usize = 20;
+
+const VERSION: u8 = 4;
+
+// The least length field: a header of 20 bytes, which has no options.
+const LEAST_WORDS: u8 = 5;
+
+// What a header's 16-bit words sum to, its checksum among them.
+const ALL_ONES: u32 = 65_535;
+
+pub enum Checked {
+    HeaderLength(usize),
+    Refused(Refusal),
+}
+
+// What passing a packet on answers.
+pub enum Forwarded {
+    Done,
+    Refused(Refusal),
+}
+
+// Two bytes of a packet as a number, high byte first.
+fn word_at(packet: &[u8], at: usize) -> u32
+    requires { ⌜ at + 1 < length (now packet) ⌝ }
+    ensures { λ r. ⌜ (r ≡ wordAt (now (packet .entry)) at) × (r ≤ allOnes) ⌝ }
+{
+    packet[at] as u32 * 256 + packet[at + 1] as u32
+}
+
+// The header's length in bytes, as its first byte states it.
+fn header_length(packet: &[u8]) -> usize
+    requires { ⌜ 0 < length (now packet) ⌝ }
+    ensures { λ r. ⌜ (r ≡ headerLength (now (packet .entry))) × (r ≤ 60) ⌝ }
+{
+    (packet[VERSION_AND_LENGTH] % 16) as usize * 4
+}
+
+// Whether slice, version, header's length and total length are right.
+fn well_formed(packet: &[u8]) -> bool
+    ensures { λ r. ⌜ r ≡ wellFormed (length (now (packet .entry))) (now (packet .entry)) ⌝ }
+{
+    if packet.len() < OPTIONS {
+        return false;
+    }
+    let first = packet[VERSION_AND_LENGTH];
+    if first / 16 != VERSION {
+        return false;
+    }
+    if first % 16 < LEAST_WORDS {
+        return false;
+    }
+    let total = word_at(packet, TOTAL_LENGTH) as usize;
+    if total < header_length(packet) {
+        return false;
+    }
+    total <= packet.len()
+}
+
+// The one's complement sum of a header's 16-bit words: their sum, whose carries are added in below
+// until none is left.
+fn header_sum(header: &[u8]) -> u32
+    requires { ⌜ (length (now header) % 2 ≡ 0) × (length (now header) ≤ 60) ⌝ }
+    ensures { λ r. ⌜ (r ≡ onesSum (now (header .entry))) × (r ≤ allOnes) ⌝ }
+{
+    let mut sum = 0;
+    let mut i = 0;
+    while i < header.len() {
+        sum += word_at(header, i);
+        i += 2;
+    }
+    let folded = sum % 65_536 + sum / 65_536;
+    folded % 65_536 + folded / 65_536
+}
+
+// Writes the checksum's field.
+fn put_checksum(packet: &mut [u8], word: u32)
+    requires { ⌜ (12 ≤ length (now packet)) × (word ≤ allOnes) ⌝ }
+    ensures { λ _. ⌜ now (packet .exit) ≡ withChecksum word (now (packet .entry)) ⌝ }
+{
+    packet[CHECKSUM] = (word / 256) as u8;
+    packet[CHECKSUM + 1] = (word % 256) as u8;
+}
+
+// Writes the checksum anew: the complement of the header's sum with the checksum's own field zero.
+fn seal(packet: &mut [u8])
+    requires { ⌜ (12 ≤ headerLength (now packet)) × (headerLength (now packet) ≤ length (now packet)) ⌝ }
+    ensures { λ _. ⌜ now (packet .exit) ≡ sealed (now (packet .entry)) ⌝ }
+{
+    let h = header_length(packet);
+    put_checksum(packet, 0);
+    let sum = header_sum(&packet[..h]);
+    put_checksum(packet, ALL_ONES - sum);
+}
+
+// Checks the header of a packet, and says how long it is.
+pub fn check_header(packet: &[u8]) -> Checked
+    ensures { λ r. ⌜ checkedTold r ≡ headerChecked (length (now (packet .entry))) (now (packet .entry)) ⌝ }
+{
+    if !well_formed(packet) {
+        return Checked::Refused(Refusal::Header);
+    }
+    let h = header_length(packet);
+    if header_sum(&packet[..h]) != ALL_ONES {
+        return Checked::Refused(Refusal::Checksum);
+    }
+    Checked::HeaderLength(h)
+}
+
+// Where the packet's Quick-Start option stands, by the place of its type in the packet. The options
+// area is handed on to the walk as a part of the packet.
+pub fn locate(packet: &[u8]) -> Finding
+    ensures { λ r. ⌜ findingTold r ≡ located (length (now (packet .entry))) (now (packet .entry)) ⌝ }
+{
+    match check_header(packet) {
+        Checked::Refused(why) => Finding::Refused(why),
+        Checked::HeaderLength(h) => match walk::find(&packet[OPTIONS..h]) {
+            Finding::Refused(why) => Finding::Refused(why),
+            Finding::Found(place) => match place {
+                Place::Nowhere => Finding::Found(Place::Nowhere),
+                Place::At(offset) => Finding::Found(Place::At(OPTIONS + offset)),
+            },
+        },
+    }
+}
+
+// Passes a packet on: lowers its IP TTL by one and writes the checksum anew. The checksum as it came is
+// not tested: whoever rewrote the option before has made it stale.
+pub fn forward(packet: &mut [u8]) -> Forwarded
+    ensures answer { λ r. ⌜ forwardedTold r ≡ done (forwarded (length (now (packet .entry))) (now (packet .entry))) ⌝ }
+    ensures packet { λ _. ⌜ now (packet .exit) ≡ leaves (now (packet .entry)) (forwarded (length (now (packet .entry))) (now (packet .entry))) ⌝ }
+{
+    if !well_formed(packet) {
+        return Forwarded::Refused(Refusal::Header);
+    }
+    let ttl = packet[TTL];
+    if ttl <= 1 {
+        return Forwarded::Refused(Refusal::TtlExpired);
+    }
+    packet[TTL] = ttl - 1;
+    seal(packet);
+    Forwarded::Done
+}
