@@ -1,11 +1,13 @@
 -- Laws of lists that know nothing of what the elements mean. Assumes nothing.
 use Prim.Native.Nat.{ℕ, zero, suc, _+_, _-_, _≤_, _<_}
 use mathlib.Core.List.{List, [], _∷_, _++_, append-assoc}
-use mathlib.Core.Path.{_≡_, ap, ap₂, sym, subst, _∙_}
+use mathlib.Core.Logic.{_⊎_, inl, inr}
+use mathlib.Core.Path.{_≡_, refl, ap, ap₂, sym, _∙_}
 use native.Mathlib.Nat.{sub-zero, zero-sub, suc-sub-suc}
 use native.Mathlib.Omega.{arith}
-use lib.ListN.{length, getD, set, take, drop, length-append, drop-of-length-le}
-use lib.Seq.{take-nil, drop-cons, drop-at, take-append-seam, drop-append-add, sets, sets-eq}
+use lib.Dec.{lit<}
+use lib.ListN.{length, getD, set, take, drop, length-append, length-drop, take-append-drop, drop-of-length-le}
+use lib.Seq.{take-nil, take-add, take-set-lt, drop-cons, drop-at, drop-set-add, getD-drop, getD-set-other, set-getD, length-take-le, take-append-seam, drop-append-add, sets, sets-eq}
 use Rattle.common.specs.Lists.{Bytes}
 
 -- the k elements of a list from place i on, written out
@@ -38,6 +40,49 @@ sets-between p old q new e =
     ∙ ap₂ (λ (a b : List ℕ). a ++ new ++ b) (take-append-seam p (old ++ q)) (drop-append-add p (old ++ q) (length new) ∙ drop-at old q (length new) e)
     ∙ append-assoc p new q
 
+pub set-own : (l : List ℕ) (i a : ℕ) → getD l i 0 ≡ a → set l i a ≡ l
+set-own l i a e = ap (λ (b : ℕ). set l i b) (sym e) ∙ set-getD l i 0
+
+-- what a list holds, stored in its own place, changes nothing
+pub sets-own : (l : List ℕ) (i k : ℕ) → i + k ≤ length l → sets l i (take k (drop i l)) ≡ l
+sets-own l i k h =
+    let part = take k (drop i l) in
+    let long : length part ≡ k = length-take-le k (drop i l) (rw (length-drop i l) (omega arith)) in
+    sets-eq part l i (rw long h)
+    ∙ ap₂ (λ (a : List ℕ) (n : ℕ). a ++ drop n l) (sym (take-add i k l)) (ap (λ (n : ℕ). i + n) long)
+    ∙ take-append-drop (i + k) l
+
+-- what was stored reads back, and every other element stays
+pub part-stored : (l : List ℕ) (i : ℕ) (vs : List ℕ) → i + length vs ≤ length l → take (length vs) (drop i (sets l i vs)) ≡ vs
+part-stored l i vs h =
+    ap (λ (t : List ℕ). take (length vs) (drop i t)) (sets-eq vs l i h ∙ append-assoc (take i l) vs (drop (i + length vs) l))
+    ∙ ap (take (length vs)) (drop-at (take i l) (vs ++ drop (i + length vs) l) i (length-take-le i l (omega arith)))
+    ∙ take-append-seam vs (drop (i + length vs) l)
+
+pub getD-sets-other : (l : List ℕ) (i : ℕ) (vs : List ℕ) (j : ℕ) → (j < i) ⊎ (i + length vs ≤ j) → getD (sets l i vs) j 0 ≡ getD l j 0
+getD-sets-other l i [] j o = refl
+getD-sets-other l i (v ∷ vs) j o =
+    getD-sets-other (set l i v) (suc i) vs j (further o) ∙ getD-set-other l i j v 0 (apart o)
+  where
+    further : (j < i) ⊎ (i + suc (length vs) ≤ j) → (j < suc i) ⊎ (suc i + length vs ≤ j)
+    further (inl h) = inl (omega arith)
+    further (inr h) = inr (omega arith)
+    apart : (j < i) ⊎ (i + suc (length vs) ≤ j) → j ≡ i → ⊥
+    apart (inl h) e = omega arith
+    apart (inr h) e = omega arith
+
+-- a run of stores in a front, and behind one
+pub take-sets : (k : ℕ) (l : List ℕ) (i : ℕ) (vs : List ℕ) → i + length vs ≤ k → take k (sets l i vs) ≡ sets (take k l) i vs
+take-sets k l i [] h = refl
+take-sets k l i (v ∷ vs) h = take-sets k (set l i v) (suc i) vs (omega arith) ∙ ap (λ (t : List ℕ). sets t (suc i) vs) (take-set-lt k l i v (omega arith))
+
+pub drop-sets : (k : ℕ) (l : List ℕ) (i : ℕ) (vs : List ℕ) → drop k (sets l (k + i) vs) ≡ sets (drop k l) i vs
+drop-sets k l i [] = refl
+drop-sets k l i (v ∷ vs) =
+    ap (λ (n : ℕ). drop k (sets (set l (k + i) v) n vs)) {x = suc (k + i)} {y = k + suc i} (omega arith)
+    ∙ drop-sets k (set l (k + i) v) (suc i) vs
+    ∙ ap (λ (t : List ℕ). sets t (suc i) vs) (drop-set-add k l i v)
+
 -- ---- lists of bytes
 
 -- a byte stored in bytes leaves bytes
@@ -47,3 +92,27 @@ bytes-set (x ∷ l) zero a h b zero = h
 bytes-set (x ∷ l) zero a h b (suc j) = b (suc j)
 bytes-set (x ∷ l) (suc i) a h b zero = b zero
 bytes-set (x ∷ l) (suc i) a h b (suc j) = bytes-set l i a h (λ k. b (suc k)) j
+
+-- bytes that are written out
+abbrev pub Each : List ℕ → Type 0
+Each [] = Unit {0}
+Each (a ∷ l) = (a < 256) × Each l
+
+pub bytes-each : (l : List ℕ) → Each l → Bytes l
+bytes-each [] e i = lit< tt
+bytes-each (a ∷ l) e zero = e .0
+bytes-each (a ∷ l) e (suc i) = bytes-each l (e .1) i
+
+pub bytes-sets : (l : List ℕ) (i : ℕ) (vs : List ℕ) → Bytes vs → Bytes l → Bytes (sets l i vs)
+bytes-sets l i [] v b = b
+bytes-sets l i (a ∷ vs) v b = bytes-sets (set l i a) (suc i) vs (λ j. v (suc j)) (bytes-set l i a (v 0) b)
+
+-- the bytes of a part
+pub bytes-part : (k i : ℕ) (l : List ℕ) → Bytes l → Bytes (take k (drop i l))
+bytes-part k i l b = front k (drop i l) (λ j. rw (getD-drop i l j 0) (b (i + j)))
+  where
+    front : (n : ℕ) (m : List ℕ) → Bytes m → Bytes (take n m)
+    front zero m c j = lit< tt
+    front (suc n) [] c j = lit< tt
+    front (suc n) (x ∷ m) c zero = c zero
+    front (suc n) (x ∷ m) c (suc j) = front n m (λ q. c (suc q)) j

@@ -103,6 +103,10 @@ good reach h packet e =
     let f = form reach packet (outer .0) in
     (record { well = outer .0; form-is = f; sum = eqb-true _ _ (inner .0); header = least reach packet f }, inner .1)
 
+pub checked-when : (reach : ℕ) (packet : List ℕ) → wellFormed reach packet ≡ true → onesSum (headerOf packet) ≡ allOnes
+    → headerChecked reach packet ≡ answer (headerLength packet)
+checked-when reach packet w s = simp (w, eq-eqb (onesSum (headerOf packet)) allOnes s)
+
 -- a store behind the first byte leaves the header's length
 pub length-kept : (packet : List ℕ) (i a : ℕ) → 1 ≤ i → headerLength (set packet i a) ≡ headerLength packet
 unfolding headerLength

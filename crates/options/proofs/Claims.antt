@@ -59,7 +59,7 @@ new-option kind old new rate ttl nonce e =
     let a = answered (fieldsFit (length old) rate nonce) new (optionBytes kind rate ttl nonce 0) 7 (sym e) in
     (fit-facts (length old) rate nonce (a .0), a .1)
 
-changed-option : (old new : List ℕ) (rate ttl nonce : ℕ) → requestRewritten old rate ttl nonce ≡ answer new
+pub changed-option : (old new : List ℕ) (rate ttl nonce : ℕ) → requestRewritten old rate ttl nonce ≡ answer new
     → Fit (length old) rate nonce × (new ≡ optionBytes 25 rate ttl nonce (reservedIn old))
 changed-option old new rate ttl nonce e =
     let outer = passed (fieldsFit (length old) rate nonce) new _ 7 (sym e) in
@@ -68,15 +68,15 @@ changed-option old new rate ttl nonce e =
 
 -- ---- what an accepted reading says
 
-record RequestIs (option : List ℕ) (r : Request) : Type 0 where
-  len : length option ≡ optionLength
-  kind : kindIn option ≡ 25
-  second : lengthIn option ≡ 8
-  function : highHalf option ≡ 0
-  is-request : isRequest option ≡ true
-  fields : r ≡ record { rate = rateIn option; «qs_ttl» = ttlIn option; nonce = nonceIn option }
+pub record RequestIs (option : List ℕ) (r : Request) : Type 0 where
+  pub len : length option ≡ optionLength
+  pub kind : kindIn option ≡ 25
+  pub second : lengthIn option ≡ 8
+  pub function : highHalf option ≡ 0
+  pub is-request : isRequest option ≡ true
+  pub fields : r ≡ record { rate = rateIn option; «qs_ttl» = ttlIn option; nonce = nonceIn option }
 
-request-is : (option : List ℕ) (r : Request) → requestRead option ≡ answer r → RequestIs option r
+pub request-is : (option : List ℕ) (r : Request) → requestRead option ≡ answer r → RequestIs option r
 unfolding isRequest
 request-is option r e =
     let outer = passed (eqb (length option) optionLength) r _ 7 (sym e) in

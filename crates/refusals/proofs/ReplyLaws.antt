@@ -1,15 +1,20 @@
--- Laws of replies that answer in range and refuse outside it: what the reply says of the test. Assumes nothing.
+-- Laws of replies: what an answer or a refusal says of the tests and calls that it came through. Assumes nothing.
 use Prim.Native.Nat.{ℕ}
 use mathlib.Core.Bool.{Bool, true, false}
 use mathlib.Core.Path.{_≡_, refl}
 use native.Mathlib.Omega.{arith}
 use Rattle.common.specs.Choice.{pick}
-use Rattle.refusals.specs.Reply.{Reply, answer, refuse}
+use Rattle.refusals.specs.Reply.{Reply, answer, refuse, andThen}
 
 -- an answer came through the test
 pub passed : {A : Type 0} (t : Bool) (a : A) (x : Reply A) (n : ℕ) → answer a ≡ pick t x (refuse n) → (t ≡ true) × (answer a ≡ x)
 passed true a x n e = (refl, e)
 passed false a x n e = let z : _≡_ {A = ℕ} 0 1 = cc in absurd (omega arith)
+
+-- an answer came past the test that refuses
+pub let-through : {A : Type 0} (t : Bool) (a : A) (x : Reply A) (n : ℕ) → answer a ≡ pick t (refuse n) x → (t ≡ false) × (answer a ≡ x)
+let-through true a x n e = let z : _≡_ {A = ℕ} 0 1 = cc in absurd (omega arith)
+let-through false a x n e = (refl, e)
 
 pub same-answer : {A : Type 0} {a b : A} → answer a ≡ answer b → a ≡ b
 same-answer e = cc
@@ -21,3 +26,8 @@ answered t a b n e = let p = passed t a (answer b) n e in (p .0, same-answer (p 
 pub refused : {A : Type 0} (t : Bool) (b : A) (m n : ℕ) → refuse m ≡ pick t (answer b) (refuse n) → (t ≡ false) × (m ≡ n)
 refused true b m n e = let z : _≡_ {A = ℕ} 0 1 = cc in absurd (omega arith)
 refused false b m n e = (refl, (cc))
+
+-- an answer came through both of two calls
+pub through : {A B : Type 0} (r : Reply A) (next : A → Reply B) (b : B) → andThen r next ≡ answer b → (a : A) × (r ≡ answer a) × (next a ≡ answer b)
+through (answer a) next b e = (a, refl, e)
+through (refuse n) next b e = let z : _≡_ {A = ℕ} 0 1 = cc in absurd (omega arith)
