@@ -3,11 +3,11 @@ use Prim.Native.Nat.{ℕ, zero, suc, _+_, _-_, _≤_, _<_}
 use mathlib.Core.List.{List, [], _∷_, _++_, append-assoc}
 use mathlib.Core.Logic.{_⊎_, inl, inr}
 use mathlib.Core.Path.{_≡_, refl, ap, ap₂, sym, _∙_}
-use native.Mathlib.Nat.{sub-zero, zero-sub, suc-sub-suc}
+use native.Mathlib.Nat.{le-refl, sub-zero, zero-sub, suc-sub-suc}
 use native.Mathlib.Omega.{arith}
 use lib.Dec.{lit<}
 use lib.ListN.{length, getD, set, take, drop, length-append, length-drop, take-append-drop, drop-of-length-le}
-use lib.Seq.{take-nil, take-add, take-set-lt, drop-cons, drop-at, drop-set-add, getD-drop, getD-set-other, set-getD, length-take-le, take-append-seam, drop-append-add, sets, sets-eq}
+use lib.Seq.{set-comm, take-nil, take-all, take-add, take-set-lt, drop-cons, drop-at, drop-set-add, getD-drop, getD-set-other, set-getD, length-take-le, take-append-seam, drop-append-add, sets, sets-eq}
 use Rattle.common.specs.Lists.{Bytes}
 
 -- the k elements of a list from place i on, written out
@@ -29,6 +29,10 @@ drop-take zero k l = ap (λ (n : ℕ). take n l) (sym (sub-zero k))
 drop-take (suc i) zero l = ap (λ (n : ℕ). take n (drop (suc i) l)) (sym (zero-sub (suc i)))
 drop-take (suc i) (suc k) [] = sym (take-nil (suc k - suc i))
 drop-take (suc i) (suc k) (x ∷ l) = drop-take i k l ∙ ap (λ (n : ℕ). take n (drop i l)) (sym (suc-sub-suc k i))
+
+-- all that is left of a list from a place on
+pub take-rest : (i : ℕ) (l : List ℕ) → take (length l - i) (drop i l) ≡ drop i l
+take-rest i l = take-all (length l - i) (drop i l) (rw (length-drop i l) (le-refl (length l - i)))
 
 -- ---- a run of stores
 
@@ -67,9 +71,16 @@ getD-sets-other l i (v ∷ vs) j o =
     further : (j < i) ⊎ (i + suc (length vs) ≤ j) → (j < suc i) ⊎ (suc i + length vs ≤ j)
     further (inl h) = inl (omega arith)
     further (inr h) = inr (omega arith)
+
     apart : (j < i) ⊎ (i + suc (length vs) ≤ j) → j ≡ i → ⊥
     apart (inl h) e = omega arith
     apart (inr h) e = omega arith
+
+-- a store before a run of stores may come after it
+pub set-sets : (l : List ℕ) (i a : ℕ) (k : ℕ) (vs : List ℕ) → i < k → set (sets l k vs) i a ≡ sets (set l i a) k vs
+set-sets l i a k [] h = refl
+set-sets l i a k (v ∷ vs) h =
+    set-sets (set l k v) i a (suc k) vs (omega arith) ∙ ap (λ (t : List ℕ). sets t (suc k) vs) (set-comm l k i v a (λ e. absurd (omega arith)))
 
 -- a run of stores in a front, and behind one
 pub take-sets : (k : ℕ) (l : List ℕ) (i : ℕ) (vs : List ℕ) → i + length vs ≤ k → take k (sets l i vs) ≡ sets (take k l) i vs

@@ -43,6 +43,11 @@ pub fills : (n : ℕ) → folded (n + (allOnes - folded n)) ≡ allOnes
 fills zero = refl
 fills (suc n) = omega (arith, above-zero (suc n + (allOnes - (n % 65535 + 1))) (omega arith))
 
+-- where the complement is 0, so do all ones
+pub fills-all : (n : ℕ) → allOnes - folded n ≡ 0 → folded (n + allOnes) ≡ allOnes
+fills-all zero e = absurd (omega arith)
+fills-all (suc n) e = omega (arith, above-zero (suc n + allOnes) (omega arith))
+
 -- and nothing else does, but for all ones where the complement is none
 pub fills-only : (n c : ℕ) → c ≤ allOnes → folded (n + c) ≡ allOnes → (c ≡ allOnes - folded n) ⊎ ((c ≡ allOnes) × (allOnes - folded n ≡ 0))
 fills-only zero c h e = inl (omega (arith, folded-small (zero + c) (omega arith)))

@@ -8,15 +8,15 @@ use borrow.Author.Tests.{eq-eqb, ne-eqb}
 use lib.ListN.{length, getD, set, take, drop, length-take}
 use Rattle.common.specs.Choice.{pick}
 use Rattle.common.proofs.Lists.{drop-take}
-use Rattle.refusals.specs.Reply.{Reply, answer, refuse, andThen}
+use Rattle.refusals.specs.Reply.{Reply, answer, refuse, leaves, done, andThen}
 use Rattle.walk.specs.declared.Place.{Place}
 use Rattle.walk.specs.declared.Place.the-variants.{At}
 use Rattle.walk.specs.Walks.{walk}
 use Rattle.walk.proofs.Claims.{walking}
-use Rattle.ipv4.specs.Headers.{leastHeader, ecnPlace, headerLength, headerOf, optionsOf}
+use Rattle.ipv4.specs.Headers.{leastHeader, optionsPlace, ecnPlace, headerLength, headerOf, optionsOf}
 use Rattle.ipv4.specs.Checksums.{sealed}
 use Rattle.ipv4.specs.Checks.{headerChecked}
-use Rattle.ipv4.specs.Packets.{inPacket, walked, located}
+use Rattle.ipv4.specs.Packets.{inPacket, walked, located, passedOn, forwarded}
 use Rattle.ipv4.specs.Marks.{Mark, marked, dropped, ectSet, withCe, markReply, afterMark, markedPacket}
 
 -- ---- marking
@@ -50,16 +50,27 @@ module _ (packet : List ℕ) where
   locate-refused n e = ap (λ (r : Reply ℕ). andThen r (λ header. walked packet)) e
 
   -- the area that is handed on: the part of the packet from byte 20 to the header's end
-  pub located-by : (h : ℕ) (w : Reply Place) → answer h ≡ headerChecked (length packet) packet → h ≡ headerLength packet → w ≡ walk (take (h - leastHeader) (drop leastHeader packet))
+  pub located-by : (h : ℕ) (w : Reply Place) → answer h ≡ headerChecked (length packet) packet → h ≡ headerLength packet → w ≡ walk (take (h - optionsPlace) (drop optionsPlace packet))
       → andThen w (λ place. answer (inPacket place)) ≡ located (length packet) packet
   located-by h w e l s =
       ap (λ (r : Reply Place). andThen r (λ place. answer (inPacket place)))
-      (s ∙ ap (λ (k : ℕ). walk (take (k - leastHeader) (drop leastHeader packet))) l ∙ ap walk (sym (drop-take leastHeader (headerLength packet) packet)))
+      (s ∙ ap (λ (k : ℕ). walk (take (k - optionsPlace) (drop optionsPlace packet))) l ∙ ap walk (sym (drop-take optionsPlace (headerLength packet) packet)))
       ∙ ap (λ (r : Reply ℕ). andThen r (λ header. walked packet)) e
 
   -- a place that the walk finds lies in the header
-  pub place-small : (h offset : ℕ) → h ≡ headerLength packet → answer (At offset) ≡ walk (take (h - leastHeader) (drop leastHeader packet)) → leastHeader + offset ≤ 60
+  pub place-small : (h offset : ℕ) → h ≡ headerLength packet → answer (At offset) ≡ walk (take (h - optionsPlace) (drop optionsPlace packet)) → optionsPlace + offset ≤ 60
   unfolding headerLength
   place-small h offset l e =
-      let room = walking .room (take (h - leastHeader) (drop leastHeader packet)) offset (sym e) .0 in
-      omega (arith, length-take (h - leastHeader) (drop leastHeader packet))
+      let room = walking .room (take (h - optionsPlace) (drop optionsPlace packet)) offset (sym e) .0 in
+      omega (arith, length-take (h - optionsPlace) (drop optionsPlace packet))
+
+  -- ---- forwarding
+
+  pub forward-refused : (n : ℕ) → refuse n ≡ headerChecked (length packet) packet
+      → (refuse n ≡ done (forwarded (length packet) packet)) × (packet ≡ leaves packet (forwarded (length packet) packet))
+  forward-refused n e =
+      let f : refuse n ≡ forwarded (length packet) packet = ap (λ (r : Reply ℕ). andThen r (λ header. passedOn (length packet) packet)) e in
+      (ap done f, ap (leaves packet) f)
+
+  pub forward-passed : (h : ℕ) → answer h ≡ headerChecked (length packet) packet → passedOn (length packet) packet ≡ forwarded (length packet) packet
+  forward-passed h e = ap (λ (r : Reply ℕ). andThen r (λ header. passedOn (length packet) packet)) e

@@ -4,20 +4,21 @@ use mathlib.Core.Bool.{true}
 use mathlib.Core.List.{List}
 use mathlib.Core.Logic.{_⊎_, inl, inr}
 use mathlib.Core.Path.{_≡_, refl, sym, ap, ap₂, subst, _∙_}
+use native.Mathlib.Nat.{le-refl}
 use native.Mathlib.Omega.{arith}
 use lib.ListN.{length, getD, set, take, drop, length-set}
-use lib.Seq.{length-take-le, getD-take, getD-set-other, take-set-lt, drop-set-lt}
+use lib.Seq.{take-take, length-take-le, getD-take, getD-set-other, take-set-lt, drop-set-lt}
 use Rattle.common.specs.Lists.{Bytes}
 use Rattle.common.proofs.Lists.{set-own, bytes-part}
 use Rattle.refusals.specs.Reply.{Reply, answer, andThen}
 use Rattle.walk.specs.Walks.{walk}
-use Rattle.ipv4.specs.Headers.{leastHeader, wordAt, checksumPlace, checksumIn, headerLength, headerOf, optionsOf}
+use Rattle.ipv4.specs.Headers.{leastHeader, optionsPlace, wordAt, ttlPlace, ipTtl, checksumPlace, checksumIn, headerLength, headerOf, optionsOf}
 use Rattle.ipv4.specs.Checksums.{allOnes, onesSum, withChecksum, checksumOf, sealed}
 use Rattle.ipv4.specs.Checks.{wellFormed, headerChecked}
 use Rattle.ipv4.specs.Packets.{inPacket, walked, located}
-use Rattle.ipv4.specs.Claims.{NoChecksum, wordTotal}
-use Rattle.ipv4.proofs.ChecksumLaws.{folded, checksum-is, fills-only, sum-field, sealed-sum, field-twice, take-field, length-field, bytes-field, length-sealed}
-use Rattle.ipv4.proofs.HeaderLaws.{Form, form, least, length-kept, checked-when}
+use Rattle.ipv4.specs.Claims.{OutsideChecksum, ValidChecksum, wordTotal}
+use Rattle.ipv4.proofs.ChecksumLaws.{folded, checksum-is, fills, fills-only, fills-all, sum-field, sealed-sum, field-twice, take-field, length-field, bytes-field, length-sealed}
+use Rattle.ipv4.proofs.HeaderLaws.{Form, form, formed, least, length-kept, checked-when}
 
 -- ---- packets that agree in what a well-formed header depends on
 
@@ -28,17 +29,17 @@ same-form reach p q l a b c = (simp (l, a, b, c), simp a)
 
 -- ---- the checksum's field of a packet
 
-pub field-others : (w : ℕ) (packet : List ℕ) (i : ℕ) → NoChecksum i → getD (withChecksum w packet) i 0 ≡ getD packet i 0
+pub field-others : (w : ℕ) (packet : List ℕ) (i : ℕ) → OutsideChecksum i → getD (withChecksum w packet) i 0 ≡ getD packet i 0
 unfolding withChecksum
 field-others w packet i n =
     getD-set-other (set packet checksumPlace (w / 256)) (suc checksumPlace) i (w % 256) 0 (n .1) ∙ getD-set-other packet checksumPlace i (w / 256) 0 (n .0)
 
-pub sealed-others : (packet : List ℕ) (i : ℕ) → NoChecksum i → getD (sealed packet) i 0 ≡ getD packet i 0
+pub sealed-others : (packet : List ℕ) (i : ℕ) → OutsideChecksum i → getD (sealed packet) i 0 ≡ getD packet i 0
 unfolding sealed
 sealed-others packet i n = field-others (checksumOf (headerOf packet)) packet i n
 
 -- a place that is not 10 or 11, by computation
-pub no-checksum : (i : ℕ) → (i < 10) ⊎ (11 < i) → NoChecksum i
+pub no-checksum : (i : ℕ) → (i < 10) ⊎ (11 < i) → OutsideChecksum i
 no-checksum i (inl h) = ((λ e. omega arith), (λ e. omega arith))
 no-checksum i (inr h) = ((λ e. omega arith), (λ e. omega arith))
 
@@ -93,19 +94,67 @@ module _ (reach : ℕ) (packet : List ℕ) (f : Form reach packet) where
       ∙ ap (λ (h : List ℕ). withChecksum (allOnes - onesSum h) (withChecksum c packet)) (field-twice 0 c (headerOf packet))
       ∙ field-twice c c packet
 
-  -- the header's own checksum, where it passes
-  pub which : Bytes packet → onesSum (headerOf packet) ≡ allOnes
-      → (checksumIn packet ≡ checksumOf (headerOf packet)) ⊎ ((checksumIn packet ≡ allOnes) × (checksumOf (headerOf packet) ≡ 0))
-  which b e =
+  -- the header's sum, by the checksum that it carries
+  sum-by : Bytes packet → onesSum (headerOf packet) ≡ folded (wordTotal (withChecksum 0 (headerOf packet)) + checksumIn packet)
+  sum-by b =
       let h = headerOf packet in
       let c = checksumIn packet in
       let hb = bytes-front (headerLength packet) packet b in
       let long : 12 ≤ length h = rw header-long (omega (arith, least reach packet f)) in
-      let small : c ≤ allOnes = omega (arith, b 10, b 11) in
       let at : (i : ℕ) → i < 12 → getD h i 0 ≡ getD packet i 0 = λ i l. getD-take (headerLength packet) packet i 0 (omega (arith, least reach packet f)) in
       let own : withChecksum c h ≡ h = ap₂ (λ (x y : ℕ). withChecksum (x * 256 + y) h) (sym (at 10 (omega arith))) (sym (at 11 (omega arith))) ∙ field-own h hb in
-      let full : folded (wordTotal (withChecksum 0 h) + c) ≡ allOnes = sym (sum-field c h long small hb) ∙ ap onesSum own ∙ e in
-      subst (λ (k : ℕ). (c ≡ k) ⊎ ((c ≡ allOnes) × (k ≡ 0))) (sym (checksum-is h hb)) (fills-only (wordTotal (withChecksum 0 h)) c small full)
+      ap onesSum (sym own) ∙ sum-field c h long (omega (arith, b 10, b 11)) hb
+
+  -- which checksums pass
+  pub which : Bytes packet → onesSum (headerOf packet) ≡ allOnes → ValidChecksum packet
+  which b e =
+      let h = headerOf packet in
+      let c = checksumIn packet in
+      subst (λ (k : ℕ). (c ≡ k) ⊎ ((c ≡ allOnes) × (k ≡ 0))) (sym (checksum-is h (bytes-front (headerLength packet) packet b)))
+      (fills-only (wordTotal (withChecksum 0 h)) c (omega (arith, b 10, b 11)) (sym (sum-by b) ∙ e))
+
+  pub which-pass : Bytes packet → ValidChecksum packet → onesSum (headerOf packet) ≡ allOnes
+  which-pass b v = sum-by b ∙ go v
+    where
+      total : ℕ
+      total = wordTotal (withChecksum 0 (headerOf packet))
+
+      c-is : checksumOf (headerOf packet) ≡ allOnes - folded total
+      c-is = checksum-is (headerOf packet) (bytes-front (headerLength packet) packet b)
+
+      go : ValidChecksum packet → folded (total + checksumIn packet) ≡ allOnes
+      go (inl e) = ap (λ (k : ℕ). folded (total + k)) (e ∙ c-is) ∙ fills total
+      go (inr e) = ap (λ (k : ℕ). folded (total + k)) (e .0) ∙ fills-all total (sym c-is ∙ e .1)
+
+  -- ---- the header by itself
+
+  header-at : (i : ℕ) → i < leastHeader → getD (headerOf packet) i 0 ≡ getD packet i 0
+  header-at i h = getD-take (headerLength packet) packet i 0 (omega (arith, least reach packet f))
+
+  pub length-alone : headerLength (headerOf packet) ≡ headerLength packet
+  unfolding headerLength
+  length-alone = ap (λ (k : ℕ). k % 16 * 4) (header-at 0 (omega arith))
+
+  pub alone : headerOf (headerOf packet) ≡ headerOf packet
+  alone = ap (λ (h : ℕ). take h (headerOf packet)) length-alone ∙ take-take (headerLength packet) (headerLength packet) packet (le-refl (headerLength packet))
+
+  pub form-alone : wellFormed reach (headerOf packet) ≡ true
+  form-alone =
+      formed reach (headerOf packet) (record {
+        long = rw header-long (least reach packet f);
+        version = ap (λ (k : ℕ). k / 16) (header-at 0 (omega arith)) ∙ f .version;
+        words = rw (header-at 0 (omega arith)) (f .words);
+        inside = rw (length-alone, header-long) (le-refl (headerLength packet));
+        total-low = rw (length-alone, header-at 2 (omega arith), header-at 3 (omega arith)) (f .total-low);
+        total-high = rw (header-at 2 (omega arith), header-at 3 (omega arith)) (f .total-high);
+      })
+
+  pub ttl-alone : ipTtl (headerOf packet) ≡ ipTtl packet
+  ttl-alone = header-at ttlPlace (omega arith)
+
+  pub sealed-alone : sealed (headerOf packet) ≡ headerOf (sealed packet)
+  unfolding sealed
+  sealed-alone = ap (λ (h : List ℕ). withChecksum (checksumOf h) (headerOf packet)) alone ∙ sym header-sealed
 
 pub passes : (reach : ℕ) (packet : List ℕ) → Bytes packet → wellFormed reach packet ≡ true → headerChecked reach (sealed packet) ≡ answer (headerLength packet)
 passes reach packet b w =
@@ -116,9 +165,9 @@ passes reach packet b w =
 
 pub options-set : (packet : List ℕ) (i a : ℕ) → 1 ≤ i → i < leastHeader → leastHeader ≤ headerLength packet → optionsOf (set packet i a) ≡ optionsOf packet
 options-set packet i a l h e =
-    ap (λ (k : ℕ). drop leastHeader (take k (set packet i a))) (length-kept packet i a l)
-    ∙ ap (drop leastHeader) (take-set-lt (headerLength packet) packet i a (omega arith))
-    ∙ drop-set-lt leastHeader (take (headerLength packet) packet) i a h
+    ap (λ (k : ℕ). drop optionsPlace (take k (set packet i a))) (length-kept packet i a l)
+    ∙ ap (drop optionsPlace) (take-set-lt (headerLength packet) packet i a (omega arith))
+    ∙ drop-set-lt optionsPlace (take (headerLength packet) packet) i a h
 
 pub options-sealed : (packet : List ℕ) → leastHeader ≤ headerLength packet → optionsOf (sealed packet) ≡ optionsOf packet
 unfolding sealed withChecksum

@@ -1,6 +1,6 @@
 -- Laws of the view: where a located option lies, and what a packet is after other numbers were stored for its view. Assumes nothing.
 use Prim.Native.Nat.{ℕ, suc, _+_, _-_, _*_, _/_, _%_, _≤_, _<_}
-use mathlib.Core.Bool.{true}
+use mathlib.Core.Bool.{true, false}
 use mathlib.Core.List.{List, [], _∷_}
 use mathlib.Core.Logic.{_⊎_, inl, inr}
 use mathlib.Core.Option.{Option, none, some}
@@ -22,11 +22,11 @@ use Rattle.walk.specs.declared.Place.{Place}
 use Rattle.walk.specs.declared.Place.the-variants.{Nowhere, At}
 use Rattle.walk.specs.Walks.{walk}
 use Rattle.walk.proofs.Claims.{walking}
-use Rattle.ipv4.specs.Headers.{leastHeader, ttlPlace, ipTtl, headerLength, headerOf, optionsOf}
+use Rattle.ipv4.specs.Headers.{leastHeader, optionsPlace, ttlPlace, ipTtl, headerLength, headerOf, optionsOf}
 use Rattle.ipv4.specs.Checks.{wellFormed, headerChecked}
 use Rattle.ipv4.specs.Packets.{inPacket, walked, located}
 use Rattle.ipv4.specs.Views.{View, optionAt, asRequest, requestAt, putRequest}
-use Rattle.ipv4.specs.Claims.{Inside, RequestFits, FitsWhere, Alike, NoRequest}
+use Rattle.ipv4.specs.Claims.{Inside, RequestFits, FitsWhere, asks, OutsideRequest}
 use Rattle.ipv4.proofs.HeaderLaws.{Form, length-kept, Good, good}
 use Rattle.ipv4.proofs.SealLaws.{same-form, options-set}
 
@@ -45,37 +45,37 @@ found reach packet place e =
     record { is-good = good reach (outer .0) packet (sym (outer .1)) .0; inner = inside .0; by-walk = inside .1; moved = same-answer (sym (inside .2)) }
 
 -- the offset in the area, as a place in the packet
-pub inside-at : (reach : ℕ) (packet : List ℕ) (o : ℕ) → Good reach packet → walk (optionsOf packet) ≡ answer (At o) → Inside (leastHeader + o) packet
+pub inside-at : (reach : ℕ) (packet : List ℕ) (o : ℕ) → Good reach packet → walk (optionsOf packet) ≡ answer (At o) → Inside (optionsPlace + o) packet
 inside-at reach packet o g e =
     let h = headerLength packet in
     let f = g .form-is in
     let r = walking .room (optionsOf packet) o e in
-    let long : length (optionsOf packet) ≡ h - leastHeader = length-drop leastHeader (headerOf packet) ∙ ap (λ (n : ℕ). n - leastHeader) (length-take-le h packet (f .inside)) in
-    let read : (i : ℕ) → leastHeader + i < h → getD (optionsOf packet) i 0 ≡ getD packet (leastHeader + i) 0 =
-      λ i l. getD-drop leastHeader (headerOf packet) i 0 ∙ getD-take h packet (leastHeader + i) 0 l in
+    let long : length (optionsOf packet) ≡ h - optionsPlace = length-drop optionsPlace (headerOf packet) ∙ ap (λ (n : ℕ). n - optionsPlace) (length-take-le h packet (f .inside)) in
+    let read : (i : ℕ) → optionsPlace + i < h → getD (optionsOf packet) i 0 ≡ getD packet (optionsPlace + i) 0 =
+    λ i l. getD-drop optionsPlace (headerOf packet) i 0 ∙ getD-take h packet (optionsPlace + i) 0 l in
     record {
       behind = omega arith;
       room = omega (arith, r .0, g .header);
       header = f .inside;
       kind = sym (read o (omega (arith, r .0, g .header))) ∙ r .1;
-      len = ap (λ (k : ℕ). getD packet k 0) {x = suc (leastHeader + o)} {y = leastHeader + suc o} (omega arith) ∙ sym (read (suc o) (omega (arith, r .0, g .header))) ∙ r .2;
+      len = ap (λ (k : ℕ). getD packet k 0) {x = suc (optionsPlace + o)} {y = optionsPlace + suc o} (omega arith) ∙ sym (read (suc o) (omega (arith, r .0, g .header))) ∙ r .2;
     }
 
 -- bytes below 20 are no option's
-pub low-apart : (inner : Place) (request : Option Request) (i : ℕ) → i < leastHeader → NoRequest (inPacket inner) request i
+pub low-apart : (inner : Place) (request : Option Request) (i : ℕ) → i < leastHeader → OutsideRequest (inPacket inner) request i
 low-apart Nowhere request i h = tt
 low-apart (At o) none i h = tt
 low-apart (At o) (some r) i h = inl (omega arith)
 
 -- ---- a request that is there
 
-alike-none : (x : Option Request) → Alike x none → x ≡ none
-alike-none none a = refl
-alike-none (some r) a = absurd a
+asks-none : (x : Option Request) → asks x ≡ false → x ≡ none
+asks-none none a = refl
+asks-none (some r) a = let z : _≡_ {A = ℕ} 0 1 = cc in absurd (omega arith)
 
-alike-some : (x : Option Request) (r : Request) → Alike x (some r) → (old : Request) × (x ≡ some old)
-alike-some none r a = absurd a
-alike-some (some old) r a = (old, refl)
+asks-some : (x : Option Request) → asks x ≡ true → (old : Request) × (x ≡ some old)
+asks-some none a = let z : _≡_ {A = ℕ} 0 1 = cc in absurd (omega arith)
+asks-some (some old) a = (old, refl)
 
 pub is-read : (reply : Reply Request) (r : Request) → asRequest reply ≡ some r → reply ≡ answer r
 is-read (answer a) r e = ap (λ (q : Request). answer q) (cc)
@@ -110,7 +110,7 @@ pub record Stored (place : Place) (packet : List ℕ) (ttl : ℕ) (request : Opt
   pub bytes : Bytes after
   pub ttl-is : ipTtl after ≡ ttl
   pub request-is : requestAt place after ≡ request
-  pub others : (i : ℕ) → (i ≡ ttlPlace → ⊥) → NoRequest place request i → getD after i 0 ≡ getD packet i 0
+  pub others : (i : ℕ) → (i ≡ ttlPlace → ⊥) → OutsideRequest place request i → getD after i 0 ≡ getD packet i 0
   pub options : walk (optionsOf after) ≡ walk (optionsOf packet)
   pub reserved : (o : ℕ) → place ≡ At o → reservedIn (optionAt o after) ≡ reservedIn (optionAt o packet)
 
@@ -123,12 +123,12 @@ module _ (reach : ℕ) (packet : List ℕ) (b : Bytes packet) (g : Good reach pa
 
   pub request-aged : (inner : Place) → requestAt (inPacket inner) aged ≡ requestAt (inPacket inner) packet
   request-aged Nowhere = refl
-  request-aged (At o) = ap (λ (l : List ℕ). asRequest (requestRead l)) (option-aged (leastHeader + o) (omega arith))
+  request-aged (At o) = ap (λ (l : List ℕ). asRequest (requestRead l)) (option-aged (optionsPlace + o) (omega arith))
 
   reserved-aged : (inner : Place) (o : ℕ) → inPacket inner ≡ At o → reservedIn (optionAt o aged) ≡ reservedIn (optionAt o packet)
   reserved-aged Nowhere o e = let z : _≡_ {A = ℕ} 0 1 = cc in absurd (omega arith)
   reserved-aged (At i) o e =
-      let l : leastHeader + i ≡ o = cc in
+      let l : optionsPlace + i ≡ o = cc in
       ap reservedIn (option-aged o (omega arith))
 
   -- the TTL alone
@@ -145,9 +145,9 @@ module _ (reach : ℕ) (packet : List ℕ) (b : Bytes packet) (g : Good reach pa
 
   -- and a request over the one that is there
   module _ (o : ℕ) (by-walk : walk (optionsOf packet) ≡ answer (At o)) (r : Request) (fits : RequestFits r)
-      (there : (old : Request) × (requestAt (At (leastHeader + o)) packet ≡ some old)) where
+      (there : (old : Request) × (requestAt (At (optionsPlace + o)) packet ≡ some old)) where
     abbrev place : ℕ
-    place = leastHeader + o
+    place = optionsPlace + o
 
     abbrev option : List ℕ
     option = optionAt place packet
@@ -214,13 +214,13 @@ module _ (reach : ℕ) (packet : List ℕ) (b : Bytes packet) (g : Good reach pa
     options-kept =
         let six = sixOf r reservedBits in
         let area : optionsOf rewritten ≡ sets (optionsOf packet) (o + 2) six =
-          ap₂ (λ (h : ℕ) (l : List ℕ). drop leastHeader (take h l)) header-kept six-stored
-          ∙ ap (drop leastHeader) (take-sets (headerLength packet) aged (suc (suc place)) six (omega (arith, at .room)))
-          ∙ ap (λ (k : ℕ). drop leastHeader (sets (take (headerLength packet) aged) k six)) {x = suc (suc place)} {y = leastHeader + (o + 2)} (omega arith)
-          ∙ drop-sets leastHeader (take (headerLength packet) aged) (o + 2) six
-          ∙ ap (λ (l : List ℕ). sets l (o + 2) six)
-            (ap (λ (h : ℕ). drop leastHeader (take h aged)) (sym (length-kept packet ttlPlace ttl (omega arith)))
-            ∙ options-set packet ttlPlace ttl (omega arith) (omega arith) (g .header)) in
+        ap₂ (λ (h : ℕ) (l : List ℕ). drop optionsPlace (take h l)) header-kept six-stored
+        ∙ ap (drop optionsPlace) (take-sets (headerLength packet) aged (suc (suc place)) six (omega (arith, at .room)))
+        ∙ ap (λ (k : ℕ). drop optionsPlace (sets (take (headerLength packet) aged) k six)) {x = suc (suc place)} {y = optionsPlace + (o + 2)} (omega arith)
+        ∙ drop-sets optionsPlace (take (headerLength packet) aged) (o + 2) six
+        ∙ ap (λ (l : List ℕ). sets l (o + 2) six)
+        (ap (λ (h : ℕ). drop optionsPlace (take h aged)) (sym (length-kept packet ttlPlace ttl (omega arith)))
+        ∙ options-set packet ttlPlace ttl (omega arith) (omega arith) (g .header)) in
         ap walk area ∙ walking .steady (optionsOf packet) six o refl by-walk ∙ sym by-walk
 
     request-stored : Stored (At place) packet ttl (some r) rewritten
@@ -237,11 +237,11 @@ module _ (reach : ℕ) (packet : List ℕ) (b : Bytes packet) (g : Good reach pa
           (ap reservedIn eight-read ∙ requestRoundTrip .rewritten-reserved option eight (r .rate) (r .«qs_ttl») (r .nonce) rewriting);
     }
 
-  pub stored : (inner : Place) (request : Option Request) → walk (optionsOf packet) ≡ answer inner → FitsWhere request → Alike (requestAt (inPacket inner) packet) request
+  pub stored : (inner : Place) (request : Option Request) → walk (optionsOf packet) ≡ answer inner → FitsWhere request → asks (requestAt (inPacket inner) packet) ≡ asks request
       → Stored (inPacket inner) packet ttl request (putRequest (inPacket inner) request aged)
   stored Nowhere none e f a = aged-stored Nowhere none refl
-  stored Nowhere (some r) e f a = absurd a
-  stored (At o) none e f a = aged-stored (At o) none (alike-none (requestAt (At (leastHeader + o)) packet) a)
+  stored Nowhere (some r) e f a = let z : _≡_ {A = ℕ} 0 1 = cc in absurd (omega arith)
+  stored (At o) none e f a = aged-stored (At o) none (asks-none (requestAt (At (optionsPlace + o)) packet) a)
   stored (At o) (some r) e f a =
-      let there = alike-some (requestAt (At (leastHeader + o)) packet) r a in
-      subst (λ (l : List ℕ). Stored (At (leastHeader + o)) packet ttl (some r) l) (sym (after-put o e r f there)) (request-stored o e r f there)
+      let there = asks-some (requestAt (At (optionsPlace + o)) packet) a in
+      subst (λ (l : List ℕ). Stored (At (optionsPlace + o)) packet ttl (some r) l) (sym (after-put o e r f there)) (request-stored o e r f there)

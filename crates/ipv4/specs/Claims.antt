@@ -1,26 +1,27 @@
--- What is claimed of packets beyond the contracts: the checksum, the option's place, the view of a packet, forwarding and marking. It speaks of the definitions that the
--- contracts cite. Assumes nothing.
+-- What is claimed of packets beyond the contracts: the checksum, what is read of a packet, the view, forwarding and marking. It speaks of the definitions that the
+-- contracts cite; places in a packet are RFC 791's numbers: 1 is the second byte, 8 IP TTL, 10 and 11 the checksum, 20 the first byte of the options. Assumes nothing.
 use Prim.Native.Nat.{ℕ, suc, _+_, _-_, _*_, _/_, _%_, _≤_, _<_}
-use mathlib.Core.Bool.{true}
+use mathlib.Core.Bool.{Bool, true, false, _&&_}
 use mathlib.Core.List.{List, [], _∷_}
 use mathlib.Core.Logic.{_⊎_}
 use mathlib.Core.Option.{Option, none, some}
 use mathlib.Core.Path.{_≡_}
+use lib.Dec.{leb}
 use lib.ListN.{length, getD}
 use Rattle.common.specs.Lists.{Bytes}
-use Rattle.refusals.specs.Reply.{answer}
+use Rattle.refusals.specs.Reply.{answer, refuse}
 use Rattle.rates.specs.Steps.{topCode}
 use Rattle.options.specs.declared.request.Request.{Request}
-use Rattle.options.specs.Wire.{optionLength, nonceLimit, reservedIn}
-use Rattle.options.specs.Requests.{requestKind}
+use Rattle.options.specs.Wire.{nonceLimit, reservedIn}
 use Rattle.walk.specs.declared.Place.{Place}
 use Rattle.walk.specs.declared.Place.the-variants.{Nowhere, At}
-use Rattle.ipv4.specs.Headers.{leastHeader, ecnPlace, ttlPlace, checksumPlace, checksumIn, headerLength, headerOf}
+use Rattle.walk.specs.Claims.{Holds, Clear}
+use Rattle.ipv4.specs.Headers.{wordAt, headerLength, totalLength, checksumIn, headerOf, optionsOf}
 use Rattle.ipv4.specs.Checksums.{allOnes, onesSum, checksumOf, sealed}
 use Rattle.ipv4.specs.Checks.{wellFormed, headerChecked}
-use Rattle.ipv4.specs.Packets.{located, forwarded}
-use Rattle.ipv4.specs.Marks.{marked, markReply, markedPacket}
-use Rattle.ipv4.specs.Views.{View, optionAt, view, put}
+use Rattle.ipv4.specs.Packets.{walked, located, passedOn, forwarded}
+use Rattle.ipv4.specs.Marks.{marked, dropped, markReply, markedPacket}
+use Rattle.ipv4.specs.Views.{View, optionAt, view, putRequest, put}
 
 -- ---- the checksum
 
@@ -30,42 +31,63 @@ wordTotal [] = 0
 wordTotal (high ∷ []) = high * 256
 wordTotal (high ∷ low ∷ rest) = high * 256 + low + wordTotal rest
 
--- addition with end-around carry is addition modulo 65,535, but that a sum of words that are not all 0 is never 0
+-- addition with end-around carry is addition modulo 65,535, where a sum of words that are not all 0 comes to 65,535 and not to 0
 pub record Summing : Type 0 where
-  pub limit : (bytes : List ℕ) → Bytes bytes → onesSum bytes ≤ allOnes
-  pub remainder : (bytes : List ℕ) → Bytes bytes → onesSum bytes % allOnes ≡ wordTotal bytes % allOnes
-  pub never-zero : (bytes : List ℕ) → Bytes bytes → onesSum bytes ≡ 0 → wordTotal bytes ≡ 0
+  pub limit : (bytes : List ℕ) → Bytes bytes → onesSum bytes ≤ 65535
+  pub remainder : (bytes : List ℕ) → Bytes bytes → onesSum bytes % 65535 ≡ wordTotal bytes % 65535
+  pub zero : (bytes : List ℕ) → Bytes bytes → wordTotal bytes ≡ 0 → onesSum bytes ≡ 0
+  pub only-zero : (bytes : List ℕ) → Bytes bytes → onesSum bytes ≡ 0 → wordTotal bytes ≡ 0
 
 -- a place outside the checksum's field
-abbrev pub NoChecksum : ℕ → Type 0
-NoChecksum i = (i ≡ checksumPlace → ⊥) × (i ≡ suc checksumPlace → ⊥)
+abbrev pub OutsideChecksum : ℕ → Type 0
+OutsideChecksum i = (i ≡ 10 → ⊥) × (i ≡ 11 → ⊥)
+
+-- the checksums that a header may carry: the one that sealing writes and, where that is 0, all ones
+abbrev pub ValidChecksum : List ℕ → Type 0
+ValidChecksum packet = (checksumIn packet ≡ checksumOf (headerOf packet)) ⊎ ((checksumIn packet ≡ 65535) × (checksumOf (headerOf packet) ≡ 0))
 
 pub record Sealing : Type 0 where
   -- a sealed header passes the check
-  pub sum : (reach : ℕ) (packet : List ℕ) → Bytes packet → wellFormed reach packet ≡ true → onesSum (headerOf (sealed packet)) ≡ allOnes
+  pub sum : (reach : ℕ) (packet : List ℕ) → Bytes packet → wellFormed reach packet ≡ true → onesSum (headerOf (sealed packet)) ≡ 65535
   pub passes : (reach : ℕ) (packet : List ℕ) → Bytes packet → wellFormed reach packet ≡ true → headerChecked reach (sealed packet) ≡ answer (headerLength packet)
   -- sealing changes the checksum alone, and a second time nothing
-  pub others : (packet : List ℕ) (i : ℕ) → NoChecksum i → getD (sealed packet) i 0 ≡ getD packet i 0
+  pub others : (packet : List ℕ) (i : ℕ) → OutsideChecksum i → getD (sealed packet) i 0 ≡ getD packet i 0
   pub long : (packet : List ℕ) → length (sealed packet) ≡ length packet
+  pub bytes : (packet : List ℕ) → Bytes packet → Bytes (sealed packet)
   pub again : (reach : ℕ) (packet : List ℕ) → wellFormed reach packet ≡ true → sealed (sealed packet) ≡ sealed packet
-  -- the checksums that pass are the one that sealing writes and, where that is 0, all ones
-  pub valid : (reach h : ℕ) (packet : List ℕ) → Bytes packet → headerChecked reach packet ≡ answer h
-      → (checksumIn packet ≡ checksumOf (headerOf packet)) ⊎ ((checksumIn packet ≡ allOnes) × (checksumOf (headerOf packet) ≡ 0))
+  -- which checksums pass
+  pub valid : (reach h : ℕ) (packet : List ℕ) → Bytes packet → headerChecked reach packet ≡ answer h → ValidChecksum packet
+  pub accepted : (reach : ℕ) (packet : List ℕ) → Bytes packet → wellFormed reach packet ≡ true → ValidChecksum packet → headerChecked reach packet ≡ answer (headerLength packet)
 
--- ---- the option's place
+-- ---- what is read of a packet
+
+pub record Reading : Type 0 where
+  -- the total length may reach as far as is said, and that is all that the reach is for
+  pub reach-only : (reach : ℕ) (packet : List ℕ) → wellFormed reach packet ≡ (wellFormed (totalLength packet) packet && leb (totalLength packet) reach)
+  -- bytes behind the header are not read: the header by itself is answered alike, and passed on alike
+  pub checked-alike : (reach : ℕ) (packet : List ℕ) → wellFormed reach packet ≡ true → headerChecked reach (headerOf packet) ≡ headerChecked reach packet
+  pub located-alike : (reach : ℕ) (packet : List ℕ) → wellFormed reach packet ≡ true → located reach (headerOf packet) ≡ located reach packet
+  pub passed-alike : (reach : ℕ) (packet new : List ℕ) → passedOn reach packet ≡ answer new → passedOn reach (headerOf packet) ≡ answer (headerOf new)
 
 -- an option that is located is of type 25 and length 8, and lies wholly in the header, behind its first 20 bytes
 pub record Inside (place : ℕ) (packet : List ℕ) : Type 0 where
-  pub behind : leastHeader ≤ place
-  pub room : place + optionLength ≤ headerLength packet
+  pub behind : 20 ≤ place
+  pub room : place + 8 ≤ headerLength packet
   pub header : headerLength packet ≤ length packet
-  pub kind : getD packet place 0 ≡ requestKind
-  pub len : getD packet (suc place) 0 ≡ optionLength
+  pub kind : getD packet place 0 ≡ 25
+  pub len : getD packet (suc place) 0 ≡ 8
 
 pub record Locating : Type 0 where
   pub inside : (reach place : ℕ) (packet : List ℕ) → located reach packet ≡ answer (At place) → Inside place packet
+  -- and an option that the options area holds is located
+  pub complete : (reach h offset : ℕ) (packet : List ℕ) → headerChecked reach packet ≡ answer h → Holds offset (optionsOf packet) → located reach packet ≡ answer (At (20 + offset))
+  pub none-complete : (reach h : ℕ) (packet : List ℕ) → headerChecked reach packet ≡ answer h → Clear (optionsOf packet) → located reach packet ≡ answer Nowhere
 
 -- ---- the view
+
+-- the nonce of an option in a packet: the upper 30 of its last 32 bits
+abbrev pub nonceAt : ℕ → List ℕ → ℕ
+nonceAt place packet = (wordAt packet (place + 4) * 65536 + wordAt packet (place + 6)) / 4
 
 -- numbers that can be written into a packet
 pub record RequestFits (r : Request) : Type 0 where
@@ -81,64 +103,85 @@ pub record Fits (v : View) : Type 0 where
   pub ttl-small : v .ttl < 256
   pub request-fits : FitsWhere (v .request)
 
--- both have a request, or neither has
-abbrev pub Alike : Option Request → Option Request → Type 0
-Alike none none = Unit {0}
-Alike none (some b) = ⊥
-Alike (some a) none = ⊥
-Alike (some a) (some b) = Unit {0}
+-- whether there is a request
+abbrev pub asks : Option Request → Bool
+asks none = false
+asks (some r) = true
 
 -- a place outside the six bytes behind the length of the option, if a request is written there
-abbrev pub NoRequest : Place → Option Request → ℕ → Type 0
-NoRequest (At place) (some r) i = (i < place + 2) ⊎ (place + optionLength ≤ i)
-NoRequest (At place) none i = Unit {0}
-NoRequest Nowhere request i = Unit {0}
+abbrev pub OutsideRequest : Place → Option Request → ℕ → Type 0
+OutsideRequest (At place) (some r) i = (i < place + 2) ⊎ (place + 8 ≤ i)
+OutsideRequest (At place) none i = Unit {0}
+OutsideRequest Nowhere request i = Unit {0}
 
--- a packet without fault, of which `old` is the view, and another view `new` put into it
+-- what putting a view leaves of a packet without fault, whose option is at `place`
 pub record Changed (reach : ℕ) (packet : List ℕ) (place : Place) (new : View) : Type 0 where
   -- what was put is what is viewed
   pub viewed : view reach (put packet new) ≡ answer new
   -- put keeps the place and the faultlessness
   pub located-still : located reach (put packet new) ≡ answer place
-  -- and every other byte; it is a packet of bytes as long as it was
-  pub others : (i : ℕ) → (i ≡ ttlPlace → ⊥) → NoChecksum i → NoRequest place (new .request) i → getD (put packet new) i 0 ≡ getD packet i 0
+  -- and every other byte; it is a packet of bytes as long as it was, and sealed
+  pub others : (i : ℕ) → (i ≡ 8 → ⊥) → OutsideChecksum i → OutsideRequest place (new .request) i → getD (put packet new) i 0 ≡ getD packet i 0
   pub long : length (put packet new) ≡ length packet
   pub bytes : Bytes (put packet new)
+  pub sealed-still : sealed (put packet new) ≡ put packet new
   -- reserved bits are "left by routers"
   pub reserved : (o : ℕ) → place ≡ At o → reservedIn (optionAt o (put packet new)) ≡ reservedIn (optionAt o packet)
 
 pub record Viewing : Type 0 where
-  pub changes : (reach : ℕ) (packet : List ℕ) (place : Place) (old new : View) → Bytes packet
-      → located reach packet ≡ answer place → view reach packet ≡ answer old → Fits new → Alike (old .request) (new .request)
-      → Changed reach packet place new
-  -- a view is of numbers that can be written
+  -- what a view shows: IP TTL and, of an option with function 0, its fields; of another option, or where there is none, no request; of a faulty packet, the refusal
+  pub shows : (reach place : ℕ) (packet : List ℕ) → located reach packet ≡ answer (At place) → getD packet (place + 2) 0 / 16 ≡ 0
+      → view reach packet ≡ answer (record {
+        ttl = getD packet 8 0;
+        request = some (record { rate = getD packet (place + 2) 0 % 16; «qs_ttl» = getD packet (place + 3) 0; nonce = nonceAt place packet });
+      })
+  pub shows-other : (reach place : ℕ) (packet : List ℕ) → located reach packet ≡ answer (At place) → (getD packet (place + 2) 0 / 16 ≡ 0 → ⊥)
+      → view reach packet ≡ answer (record { ttl = getD packet 8 0; request = none })
+  pub shows-none : (reach : ℕ) (packet : List ℕ) → located reach packet ≡ answer Nowhere → view reach packet ≡ answer (record { ttl = getD packet 8 0; request = none })
+  pub refused : (reach n : ℕ) (packet : List ℕ) → located reach packet ≡ refuse n → view reach packet ≡ refuse n
+  -- these are numbers that can be written
   pub fits : (reach : ℕ) (packet : List ℕ) (v : View) → Bytes packet → view reach packet ≡ answer v → Fits v
+  -- another view that asks where the old one does, and does not where it does not, can be put
+  pub changes : (reach : ℕ) (packet : List ℕ) (place : Place) (old new : View) → Bytes packet
+      → located reach packet ≡ answer place → view reach packet ≡ answer old → Fits new → asks (old .request) ≡ asks (new .request)
+      → Changed reach packet place new
   -- put of the view is the packet again when its checksum is the one that sealing writes, and differs in the two checksum bytes alone otherwise
   pub same : (reach : ℕ) (packet : List ℕ) (v : View) → Bytes packet → view reach packet ≡ answer v
       → checksumIn packet ≡ checksumOf (headerOf packet) → put packet v ≡ packet
-  pub otherwise : (reach : ℕ) (packet : List ℕ) (v : View) → Bytes packet → view reach packet ≡ answer v
-      → (i : ℕ) → NoChecksum i → getD (put packet v) i 0 ≡ getD packet i 0
+  pub otherwise : (reach : ℕ) (packet : List ℕ) (v : View) → Bytes packet → view reach packet ≡ answer v → put packet v ≡ sealed packet
 
 -- ---- forwarding and marking
 
 pub record Forwarding : Type 0 where
-  -- forwarding a packet without fault is putting its view with the IP TTL one lower
-  pub puts : (reach : ℕ) (packet : List ℕ) (v : View) → Bytes packet → view reach packet ≡ answer v → 1 < v .ttl
+  -- a request rewritten in its place and the packet then passed on: that is putting the view with that request and the IP TTL one lower
+  pub puts : (reach : ℕ) (packet : List ℕ) (place : Place) (v : View) (request : Option Request) → Bytes packet
+      → located reach packet ≡ answer place → view reach packet ≡ answer v → FitsWhere request → asks (v .request) ≡ asks request → 1 < v .ttl
+      → passedOn reach (putRequest place request packet) ≡ answer (put packet (record { ttl = v .ttl - 1; request = request }))
+  -- a packet forwarded as it came: its view with the IP TTL one lower
+  pub puts-back : (reach : ℕ) (packet : List ℕ) (v : View) → Bytes packet → view reach packet ≡ answer v → 1 < v .ttl
       → forwarded reach packet ≡ answer (put packet (record { ttl = v .ttl - 1; request = v .request }))
-  -- it changes no byte but IP TTL and checksum, whatever the options are
-  pub others : (reach : ℕ) (packet new : List ℕ) → forwarded reach packet ≡ answer new
-      → (i : ℕ) → (i ≡ ttlPlace → ⊥) → NoChecksum i → getD new i 0 ≡ getD packet i 0
-  -- what was forwarded passes the check
-  pub passes : (reach : ℕ) (packet new : List ℕ) → Bytes packet → forwarded reach packet ≡ answer new → headerChecked reach new ≡ answer (headerLength packet)
+  -- whatever the options are: the IP TTL is one lower, no byte changes but it and the checksum, the header passes the check, and the options are as they were
+  pub lowered : (reach : ℕ) (packet new : List ℕ) → passedOn reach packet ≡ answer new → getD new 8 0 + 1 ≡ getD packet 8 0
+  pub others : (reach : ℕ) (packet new : List ℕ) → passedOn reach packet ≡ answer new → (i : ℕ) → (i ≡ 8 → ⊥) → OutsideChecksum i → getD new i 0 ≡ getD packet i 0
+  pub long : (reach : ℕ) (packet new : List ℕ) → passedOn reach packet ≡ answer new → length new ≡ length packet
+  pub bytes : (reach : ℕ) (packet new : List ℕ) → Bytes packet → passedOn reach packet ≡ answer new → Bytes new
+  pub passes : (reach : ℕ) (packet new : List ℕ) → Bytes packet → passedOn reach packet ≡ answer new → headerChecked reach new ≡ answer (headerLength packet)
+  pub options-still : (reach : ℕ) (packet new : List ℕ) → Bytes packet → passedOn reach packet ≡ answer new → located reach new ≡ walked packet
 
-pub record Marking : Type 0 where
+pub record EcnMarking : Type 0 where
+  -- by the two bits: 00 and 01 have ECT clear, 10 and 11 have it set
+  pub dropped-when : (h : ℕ) (packet : List ℕ) → headerChecked (length packet) packet ≡ answer h → getD packet 1 0 % 4 < 2 → markReply packet ≡ answer dropped
+  pub marked-when : (h : ℕ) (packet : List ℕ) → headerChecked (length packet) packet ≡ answer h → 2 ≤ getD packet 1 0 % 4 → markReply packet ≡ answer marked
   -- marking changes no byte but the second and the checksum
-  pub others : (packet : List ℕ) (i : ℕ) → (i ≡ ecnPlace → ⊥) → NoChecksum i → getD (markedPacket packet) i 0 ≡ getD packet i 0
+  pub others : (packet : List ℕ) (i : ℕ) → (i ≡ 1 → ⊥) → OutsideChecksum i → getD (markedPacket packet) i 0 ≡ getD packet i 0
+  pub long : (packet : List ℕ) → length (markedPacket packet) ≡ length packet
+  pub bytes : (packet : List ℕ) → Bytes packet → Bytes (markedPacket packet)
   -- of the second byte it sets both ECN bits, and keeps the other six
   pub bits : (packet : List ℕ) → markReply packet ≡ answer marked
-      → (getD (markedPacket packet) ecnPlace 0 % 4 ≡ 3) × (getD (markedPacket packet) ecnPlace 0 / 4 ≡ getD packet ecnPlace 0 / 4)
+      → (getD (markedPacket packet) 1 0 % 4 ≡ 3) × (getD (markedPacket packet) 1 0 / 4 ≡ getD packet 1 0 / 4)
   -- marking twice is marking once, in the answer and in the packet
   pub twice : (packet : List ℕ) → Bytes packet → (markReply (markedPacket packet) ≡ markReply packet) × (markedPacket (markedPacket packet) ≡ markedPacket packet)
-  -- a marked packet passes the check as it did before, and its option is where it was
+  -- a marked packet passes the check as it did before, and its option and its view are what they were
   pub passes : (packet : List ℕ) → Bytes packet → headerChecked (length packet) (markedPacket packet) ≡ headerChecked (length packet) packet
   pub located-still : (packet : List ℕ) → Bytes packet → located (length packet) (markedPacket packet) ≡ located (length packet) packet
+  pub viewed-still : (packet : List ℕ) → Bytes packet → view (length packet) (markedPacket packet) ≡ view (length packet) packet

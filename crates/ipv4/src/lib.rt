@@ -9,8 +9,8 @@ ghost use Rattle.walk.specs.Replies.{findingTold};
 ghost use Rattle.ipv4.specs.Headers.{wordAt, headerLength};
 ghost use Rattle.ipv4.specs.Checksums.{allOnes, onesSum, withChecksum, sealed};
 ghost use Rattle.ipv4.specs.Checks.{wellFormed, headerChecked};
-ghost use Rattle.ipv4.specs.Packets.{located, forwarded};
-ghost use Rattle.ipv4.specs.Replies.{checkedTold, forwardedTold};
+ghost use Rattle.ipv4.specs.Packets.{ttlReply, located, passedOn, forwarded};
+ghost use Rattle.ipv4.specs.Replies.{checkedTold, ttlTold, forwardedTold};
 use refusals::Refusal;
 use walk::Finding;
 use walk::Place;
@@ -38,6 +38,11 @@ const ALL_ONES: u32 = 65_535;
 
 pub enum Checked {
     HeaderLength(usize),
+    Refused(Refusal),
+}
+
+pub enum IpTtl {
+    Is(u8),
     Refused(Refusal),
 }
 
@@ -84,8 +89,8 @@ fn well_formed(packet: &[u8]) -> bool
     total <= packet.len()
 }
 
-// The one's complement sum of a header's 16-bit words: their sum, whose carries are added in below
-// until none is left.
+// The one's complement sum of a header's 16-bit words: their sum, whose carries out of the low 16 bits
+// are added in below. A header has at most 30 words, so twice is enough.
 fn header_sum(header: &[u8]) -> u32
     requires { ⌜ (length (now header) % 2 ≡ 0) × (length (now header) ≤ 60) ⌝ }
     ensures { λ r. ⌜ (r ≡ onesSum (now (header .entry))) × (r ≤ allOnes) ⌝ }
@@ -151,11 +156,21 @@ pub fn locate(packet: &[u8]) -> Finding
     }
 }
 
-// Passes a packet on: lowers its IP TTL by one and writes the checksum anew. The checksum as it came is
-// not tested: whoever rewrote the option before has made it stale.
-pub fn forward(packet: &mut [u8]) -> Forwarded
-    ensures answer { λ r. ⌜ forwardedTold r ≡ done (forwarded (length (now (packet .entry))) (now (packet .entry))) ⌝ }
-    ensures packet { λ _. ⌜ now (packet .exit) ≡ leaves (now (packet .entry)) (forwarded (length (now (packet .entry))) (now (packet .entry))) ⌝ }
+// The IP TTL of a packet whose header is well formed.
+pub fn ip_ttl(packet: &[u8]) -> IpTtl
+    ensures { λ r. ⌜ ttlTold r ≡ ttlReply (length (now (packet .entry))) (now (packet .entry)) ⌝ }
+{
+    if !well_formed(packet) {
+        return IpTtl::Refused(Refusal::Header);
+    }
+    IpTtl::Is(packet[TTL])
+}
+
+// Lowers the IP TTL by one and writes the checksum anew. The checksum as it came is not tested: this is
+// for a router that has rewritten the option, and so made it stale.
+pub fn pass_on(packet: &mut [u8]) -> Forwarded
+    ensures answer { λ r. ⌜ forwardedTold r ≡ done (passedOn (length (now (packet .entry))) (now (packet .entry))) ⌝ }
+    ensures packet { λ _. ⌜ now (packet .exit) ≡ leaves (now (packet .entry)) (passedOn (length (now (packet .entry))) (now (packet .entry))) ⌝ }
 {
     if !well_formed(packet) {
         return Forwarded::Refused(Refusal::Header);
@@ -167,4 +182,15 @@ pub fn forward(packet: &mut [u8]) -> Forwarded
     packet[TTL] = ttl - 1;
     seal(packet);
     Forwarded::Done
+}
+
+// Passes on a packet that nobody has rewritten: its checksum is tested first.
+pub fn forward(packet: &mut [u8]) -> Forwarded
+    ensures answer { λ r. ⌜ forwardedTold r ≡ done (forwarded (length (now (packet .entry))) (now (packet .entry))) ⌝ }
+    ensures packet { λ _. ⌜ now (packet .exit) ≡ leaves (now (packet .entry)) (forwarded (length (now (packet .entry))) (now (packet .entry))) ⌝ }
+{
+    match check_header(packet) {
+        Checked::Refused(why) => Forwarded::Refused(why),
+        Checked::HeaderLength(_) => pass_on(packet),
+    }
 }

@@ -10,8 +10,7 @@ use lib.ListN.{length, getD, take, drop, length-append, length-take, length-drop
 use lib.Seq.{take-suc, drop-at, drop-drop, length-take-le, getD-take, drop-cons}
 use Rattle.common.specs.Choice.{within}
 use Rattle.common.proofs.Choice.{in-within}
-use Rattle.refusals.specs.Reply.{answer, refuse}
-use Rattle.refusals.proofs.ReplyLaws.{same-answer}
+use Rattle.refusals.specs.Reply.{Reply, answer, refuse}
 use Rattle.options.specs.Wire.{optionLength, kindIn, lengthIn}
 use Rattle.options.specs.Requests.{requestKind}
 use Rattle.walk.specs.declared.Place.{Place}
@@ -87,33 +86,43 @@ found offset six rest e =
 
 -- ---- whatever the walk yields, the area is made so
 
--- from an offset on: nothing more is found, or the first is
-pub data Yields (place : Place) (offset : ℕ) (bytes : List ℕ) (q : Place) : Type 0 where
-  clear : place ≡ q → Clear bytes → Yields place offset bytes q
-  holds : (o : ℕ) → place ≡ Nowhere → q ≡ At (offset + o) → Holds o bytes → Yields place offset bytes q
+-- bytes in which the walk meets a fault: before it finds an option, or behind the first
+pub data Breaks (place : Place) (n : ℕ) (bytes : List ℕ) : Type 0 where
+  at-once : (before left : List ℕ) (o : ℕ) → Skipped before → bytes ≡ before ++ left → look place o left ≡ fault n → Breaks place n bytes
+  behind : (before six between left : List ℕ) (p o : ℕ) → place ≡ Nowhere → Skipped before → length six ≡ 6 → Skipped between
+      → bytes ≡ before ++ (quickStartOption six ++ (between ++ left)) → look (At p) o left ≡ fault n → Breaks place n bytes
+
+-- what the walk yields from an offset on: nothing more, the first option, or a fault
+pub data Yields (place : Place) (offset : ℕ) (bytes : List ℕ) (r : Reply Place) : Type 0 where
+  clear : answer place ≡ r → Clear bytes → Yields place offset bytes r
+  holds : (o : ℕ) → place ≡ Nowhere → answer (At (offset + o)) ≡ r → Holds o bytes → Yields place offset bytes r
+  breaks : (n : ℕ) → refuse n ≡ r → Breaks place n bytes → Yields place offset bytes r
 
 -- with more of what is skipped in front of it
-extend : (place : Place) (offset : ℕ) (p rest : List ℕ) (q : Place) → ((s : List ℕ) → Skipped s → Skipped (p ++ s))
-    → Yields place (offset + length p) rest q → Yields place offset (p ++ rest) q
-extend place offset p rest q more (clear e c) =
-    clear e (record {
-      skipped = p ++ c .skipped;
-      rest = c .rest;
-      whole = ap (λ (l : List ℕ). p ++ l) (c .whole) ∙ sym (append-assoc p (c .skipped) (c .rest));
-      skips = more (c .skipped) (c .skips);
-      ends = c .ends;
-    })
-extend place offset p rest q more (holds o n e h) =
-    holds (length p + o) n (e ∙ ap (λ (k : ℕ). At k) {x = offset + length p + o} {y = offset + (length p + o)} (omega arith)) (record {
-      before = p ++ h .before;
-      six = h .six;
-      rest = h .rest;
-      whole = ap (λ (l : List ℕ). p ++ l) (h .whole) ∙ sym (append-assoc p (h .before) (quickStartOption (h .six) ++ h .rest));
-      place = length-append p (h .before) ∙ ap (λ (k : ℕ). length p + k) (h .place);
-      full = h .full;
-      skips = more (h .before) (h .skips);
-      clear = h .clear;
-    })
+module _ (p : List ℕ) (more : (s : List ℕ) → Skipped s → Skipped (p ++ s)) where
+  further-back : (rest before tail : List ℕ) → rest ≡ before ++ tail → p ++ rest ≡ (p ++ before) ++ tail
+  further-back rest before tail e = ap (λ (l : List ℕ). p ++ l) e ∙ sym (append-assoc p before tail)
+
+  extend-breaks : (place : Place) (n : ℕ) (rest : List ℕ) → Breaks place n rest → Breaks place n (p ++ rest)
+  extend-breaks place n rest (at-once before left o s w l) = at-once (p ++ before) left o (more before s) (further-back rest before left w) l
+  extend-breaks place n rest (behind before six between left q o x s f t w l) =
+      behind (p ++ before) six between left q o x (more before s) f t (further-back rest before (quickStartOption six ++ (between ++ left)) w) l
+
+  extend : (place : Place) (offset : ℕ) (rest : List ℕ) (r : Reply Place) → Yields place (offset + length p) rest r → Yields place offset (p ++ rest) r
+  extend place offset rest r (clear e c) =
+      clear e (record { skipped = p ++ c .skipped; rest = c .rest; whole = further-back rest (c .skipped) (c .rest) (c .whole); skips = more (c .skipped) (c .skips); ends = c .ends })
+  extend place offset rest r (holds o n e h) =
+      holds (length p + o) n (ap (λ (k : ℕ). answer (At k)) {x = offset + (length p + o)} {y = offset + length p + o} (omega arith) ∙ e) (record {
+        before = p ++ h .before;
+        six = h .six;
+        rest = h .rest;
+        whole = further-back rest (h .before) (quickStartOption (h .six) ++ h .rest) (h .whole);
+        place = length-append p (h .before) ∙ ap (λ (k : ℕ). length p + k) (h .place);
+        full = h .full;
+        skips = more (h .before) (h .skips);
+        clear = h .clear;
+      })
+  extend place offset rest r (breaks n e b) = breaks n e (extend-breaks place n rest b)
 
 at-end : (bytes : List ℕ) → kindIn bytes ≡ endKind → 1 ≤ length bytes → Clear bytes
 at-end bytes k h = record {
@@ -154,67 +163,75 @@ option-front bytes k l f =
     )
 
 -- a Quick-Start option at the front, with what follows it
-here : (place : Place) (offset len : ℕ) (bytes : List ℕ) (q : Place) → place ≡ Nowhere → kindIn bytes ≡ requestKind → len ≡ optionLength → lengthIn bytes ≡ len
-    → lengthFits bytes ≡ true → Yields (At offset) (offset + len) (drop len bytes) q → Yields place offset bytes q
-here place offset len bytes q n k o l f (clear e c) =
-    let s = option-front bytes k (l ∙ o) f in
-    holds 0 n (sym e ∙ ap (λ (i : ℕ). At i) (sym (add-zero offset))) (record {
-      before = [];
-      six = s .0;
-      rest = drop optionLength bytes;
-      whole = s .2;
-      place = refl;
-      full = s .1;
-      skips = none;
-      clear = subst (λ (i : ℕ). Clear (drop i bytes)) o c;
-    })
-here place offset len bytes q n k o l f (holds i m e c) = let z : _≡_ {A = ℕ} 0 1 = cc in absurd (omega arith)
+module _ (place : Place) (offset : ℕ) (bytes : List ℕ) (r : Reply Place) (n : place ≡ Nowhere)
+    (front : (six : List ℕ) × (length six ≡ 6) × (bytes ≡ quickStartOption six ++ drop optionLength bytes)) where
+  here-breaks : (k i : ℕ) → Breaks (At i) k (drop optionLength bytes) → Breaks place k bytes
+  here-breaks k i (at-once before left o s w l) =
+      behind [] (front .0) before left i o n none (front .1) s (front .2 ∙ ap (λ (t : List ℕ). quickStartOption (front .0) ++ t) w) l
+  here-breaks k i (behind before six between left p o x s f t w l) = let z : _≡_ {A = ℕ} 0 1 = cc in absurd (omega arith)
 
-module _ (place : Place) (offset : ℕ) (bytes : List ℕ) (q : Place) (h : 1 ≤ length bytes) (e : walkOn place offset 0 bytes ≡ answer q) where
-  on : (s : Next) → look place offset bytes ≡ s → goOn place s (λ found len. walkOn found (suc offset) (len - 1) (drop 1 bytes)) ≡ answer q
+  here : Yields (At offset) (offset + optionLength) (drop optionLength bytes) r → Yields place offset bytes r
+  here (clear e c) =
+      holds 0 n (ap (λ (i : ℕ). answer (At i)) (add-zero offset) ∙ e) (record {
+        before = [];
+        six = front .0;
+        rest = drop optionLength bytes;
+        whole = front .2;
+        place = refl;
+        full = front .1;
+        skips = none;
+        clear = c;
+      })
+  here (holds i m e c) = let z : _≡_ {A = ℕ} 0 1 = cc in absurd (omega arith)
+  here (breaks k e b) = breaks k e (here-breaks k offset b)
+
+module _ (place : Place) (offset : ℕ) (bytes : List ℕ) (r : Reply Place) (h : 1 ≤ length bytes) (e : walkOn place offset 0 bytes ≡ r) where
+  on : (s : Next) → look place offset bytes ≡ s → goOn place s (λ found len. walkOn found (suc offset) (len - 1) (drop 1 bytes)) ≡ r
   on s l = ap (λ (s : Next). goOn place s (λ found len. walkOn found (suc offset) (len - 1) (drop 1 bytes))) (sym l) ∙ sym (step place offset bytes h) ∙ e
 
-  no-fault : (n : ℕ) → look place offset bytes ≡ fault n → ⊥
-  no-fault n l = let f = on (fault n) l in let z : _≡_ {A = ℕ} 0 1 = cc in omega arith
+  at-fault : (n : ℕ) → look place offset bytes ≡ fault n → Yields place offset bytes r
+  at-fault n l = breaks n (on (fault n) l) (at-once [] bytes offset none refl l)
 
   -- an option that is skipped
   in-front : (len : ℕ) → len ≤ length bytes → ((s : List ℕ) → Skipped s → Skipped (take len bytes ++ s))
-      → Yields place (offset + len) (drop len bytes) q → Yields place offset bytes q
+      → Yields place (offset + len) (drop len bytes) r → Yields place offset bytes r
   in-front len room more y =
-      subst (λ (l : List ℕ). Yields place offset l q) (take-append-drop len bytes)
-      (extend place offset (take len bytes) (drop len bytes) q more
-      (subst (λ (k : ℕ). Yields place (offset + k) (drop len bytes) q) (sym (length-take-le len bytes room)) y))
+      subst (λ (l : List ℕ). Yields place offset l r) (take-append-drop len bytes)
+      (extend (take len bytes) more place offset (drop len bytes) r
+      (subst (λ (k : ℕ). Yields place (offset + k) (drop len bytes) r) (sym (length-take-le len bytes room)) y))
 
-  by-look : ((found : Place) (len : ℕ) → 1 ≤ len → walkOn found (offset + len) 0 (drop len bytes) ≡ answer q → Yields found (offset + len) (drop len bytes) q)
-      → Yields place offset bytes q
+  by-look : ((found : Place) (len : ℕ) → 1 ≤ len → walkOn found (offset + len) 0 (drop len bytes) ≡ r → Yields found (offset + len) (drop len bytes) r)
+      → Yields place offset bytes r
   by-look ih =
-      looks (λ (s : Next). look place offset bytes ≡ s → Yields place offset bytes q) place offset bytes
-      (λ k l. clear (same-answer (on end l)) (at-end bytes k h))
+      looks (λ (s : Next). look place offset bytes ≡ s → Yields place offset bytes r) place offset bytes
+      (λ k l. clear (on end l) (at-end bytes k h))
       (λ k l. in-front 1 h (no-op k) (further place 1 (omega arith) l))
-      (λ f l. absurd (no-fault 3 l))
-      (λ k l. absurd (no-fault 5 l))
-      (λ n k len f l. here place offset (lengthIn bytes) bytes q n k len refl f (further (At offset) (lengthIn bytes) (omega (arith, fits-low bytes f)) l))
+      (λ a b f. at-fault 3)
+      (λ k f o. at-fault 5)
+      (λ n k len f l.
+      here place offset bytes r n (option-front bytes k len f)
+      (subst (λ (i : ℕ). Yields (At offset) (offset + i) (drop i bytes) r) len (further (At offset) (lengthIn bytes) (omega (arith, fits-low bytes f)) l)))
       (λ a b d f l. in-front (lengthIn bytes) (fits-high bytes f) (λ s. other (take (lengthIn bytes) bytes) s (front bytes a b d f))
       (further place (lengthIn bytes) (omega (arith, fits-low bytes f)) l))
       refl
     where
-      further : (found : Place) (len : ℕ) → 1 ≤ len → look place offset bytes ≡ past found len → Yields found (offset + len) (drop len bytes) q
+      further : (found : Place) (len : ℕ) → 1 ≤ len → look place offset bytes ≡ past found len → Yields found (offset + len) (drop len bytes) r
       further found len low l = ih found len low (sym (goes-past place found offset len bytes h l) ∙ e)
 
       no-op : kindIn bytes ≡ noOperation → (s : List ℕ) → Skipped s → Skipped (take 1 bytes ++ s)
       no-op k s i = subst (λ (l : List ℕ). Skipped (l ++ s)) {x = noOperation ∷ []} {y = take 1 bytes} (sym (take-suc bytes 0 0 h ∙ ap (λ (b : ℕ). b ∷ []) k)) (filler s i)
 
 -- by the number of bytes that are left
-pub yields : (n : ℕ) (place : Place) (offset : ℕ) (bytes : List ℕ) (q : Place) → length bytes ≤ n → walkOn place offset 0 bytes ≡ answer q → Yields place offset bytes q
+pub yields : (k : ℕ) (place : Place) (offset : ℕ) (bytes : List ℕ) (r : Reply Place) → length bytes ≤ k → walkOn place offset 0 bytes ≡ r → Yields place offset bytes r
 unfolding walkOn
-yields zero place offset [] q h e = clear (same-answer e) (record { skipped = []; rest = []; whole = refl; skips = none; ends = last })
-yields zero place offset (b ∷ rest) q h e = absurd (omega arith)
-yields (suc n) place offset bytes q h e = go bytes h e (yields n)
+yields zero place offset [] r h e = clear e (record { skipped = []; rest = []; whole = refl; skips = none; ends = last })
+yields zero place offset (b ∷ rest) r h e = absurd (omega arith)
+yields (suc k) place offset bytes r h e = go bytes h e (yields k)
   where
-    go : (bytes : List ℕ) → length bytes ≤ suc n → walkOn place offset 0 bytes ≡ answer q
-        → ((place : Place) (offset : ℕ) (bytes : List ℕ) (q : Place) → length bytes ≤ n → walkOn place offset 0 bytes ≡ answer q → Yields place offset bytes q)
-        → Yields place offset bytes q
-    go [] h e ih = clear (same-answer e) (record { skipped = []; rest = []; whole = refl; skips = none; ends = last })
+    go : (bytes : List ℕ) → length bytes ≤ suc k → walkOn place offset 0 bytes ≡ r
+        → ((place : Place) (offset : ℕ) (bytes : List ℕ) (r : Reply Place) → length bytes ≤ k → walkOn place offset 0 bytes ≡ r → Yields place offset bytes r)
+        → Yields place offset bytes r
+    go [] h e ih = clear e (record { skipped = []; rest = []; whole = refl; skips = none; ends = last })
     go (b ∷ rest) h e ih =
-        by-look place offset (b ∷ rest) q (omega arith) e
-        (λ found len low. ih found (offset + len) (drop len (b ∷ rest)) q (rw (length-drop len (b ∷ rest)) (omega arith)))
+        by-look place offset (b ∷ rest) r (omega arith) e
+        (λ found len low. ih found (offset + len) (drop len (b ∷ rest)) r (rw (length-drop len (b ∷ rest)) (omega arith)))

@@ -1,7 +1,8 @@
 -- The claims of specs/Claims.antt: the walk over what an area is made of, and back. Assumes nothing.
-use Prim.Native.Nat.{ℕ, suc, _+_, _-_, _≤_}
+use Prim.Native.Nat.{ℕ, suc, _+_, _-_, _≤_, _<_}
 use mathlib.Core.Bool.{true, false}
 use mathlib.Core.List.{List, [], _∷_, _++_, append-assoc}
+use mathlib.Core.Logic.{_⊎_, inl, inr}
 use mathlib.Core.Path.{_≡_, refl, sym, ap, subst, _∙_}
 use native.Mathlib.Nat.{add-zero, zero-add, le-refl}
 use native.Mathlib.Omega.{arith}
@@ -9,28 +10,34 @@ use borrow.Author.Tests.{ne-eqb}
 use lib.ListN.{length, getD, drop, length-append}
 use lib.Seq.{getD-append-add, sets}
 use Rattle.common.proofs.Lists.{sets-between}
-use Rattle.refusals.specs.Reply.{answer, refuse}
+use Rattle.refusals.specs.Reply.{Reply, answer, refuse}
 use Rattle.options.specs.Wire.{optionLength, kindIn, lengthIn}
 use Rattle.options.specs.Requests.{requestKind}
 use Rattle.walk.specs.declared.Place.{Place}
 use Rattle.walk.specs.declared.Place.the-variants.{Nowhere, At}
 use Rattle.walk.specs.Walks.{Next, fault, endKind, noOperation, lengthFits, look, goOn, walkOn, walk}
-use Rattle.walk.specs.Claims.{Skipped, Clear, quickStartOption, Holds, Walking, Passed, no-option, one-option, Faults}
-use Rattle.walk.proofs.WalkLaws.{step, fits-low, fits-high, other-length}
-use Rattle.walk.proofs.AreaLaws.{skip, clear-yields, found, Yields, clear, holds, yields}
+use Rattle.walk.specs.Claims.{Skipped, Clear, quickStartOption, Holds, Passed, no-option, one-option, Faulty, bad-length, other-length, second, Walking}
+use Rattle.walk.proofs.WalkLaws.{looks, step, fits-low, fits-high, no-fit, in-fit, fit-fails}
+use Rattle.walk.proofs.WalkLaws as laws
+use Rattle.walk.proofs.AreaLaws.{skip, clear-yields, found, Breaks, at-once, behind, Yields, clear, holds, breaks, yields}
 
 -- ---- what is found
 
-holds-sound : (area : List ℕ) (offset : ℕ) → Yields Nowhere 0 area (At offset) → Holds offset area
-holds-sound area offset (clear e c) = let z : _≡_ {A = ℕ} 0 1 = cc in absurd (omega arith)
-holds-sound area offset (holds o n e h) = let i : offset ≡ 0 + o = cc in subst (λ (k : ℕ). Holds k area) {x = o} {y = offset} (omega arith) h
+all-yields : (area : List ℕ) (r : Reply Place) → walk area ≡ r → Yields Nowhere 0 area r
+all-yields area r e = yields (length area) Nowhere 0 area r (le-refl (length area)) e
 
-clear-sound : (area : List ℕ) → Yields Nowhere 0 area Nowhere → Clear area
+holds-sound : (area : List ℕ) (offset : ℕ) → Yields Nowhere 0 area (answer (At offset)) → Holds offset area
+holds-sound area offset (clear e c) = let z : _≡_ {A = ℕ} 0 1 = cc in absurd (omega arith)
+holds-sound area offset (holds o n e h) = let i : 0 + o ≡ offset = cc in subst (λ (k : ℕ). Holds k area) {x = o} {y = offset} (omega arith) h
+holds-sound area offset (breaks n e b) = let z : _≡_ {A = ℕ} 0 1 = cc in absurd (omega arith)
+
+clear-sound : (area : List ℕ) → Yields Nowhere 0 area (answer Nowhere) → Clear area
 clear-sound area (clear e c) = c
 clear-sound area (holds o n e h) = let z : _≡_ {A = ℕ} 0 1 = cc in absurd (omega arith)
+clear-sound area (breaks n e b) = let z : _≡_ {A = ℕ} 0 1 = cc in absurd (omega arith)
 
 sound : (area : List ℕ) (offset : ℕ) → walk area ≡ answer (At offset) → Holds offset area
-sound area offset e = holds-sound area offset (yields (length area) Nowhere 0 area (At offset) (le-refl (length area)) e)
+sound area offset e = holds-sound area offset (all-yields area (answer (At offset)) e)
 
 complete : (area : List ℕ) (offset : ℕ) → Holds offset area → walk area ≡ answer (At offset)
 complete area offset h =
@@ -65,27 +72,6 @@ rewritten area six offset e h =
     ∙ sets-between front (h .six) (h .rest) six (h .full ∙ sym e)
     ∙ sym (cut six)
 
-pub walking : Walking
-walking = record {
-  sound = sound;
-  complete = complete;
-  room = λ area offset e. room area offset (sound area offset e);
-  none-sound = λ area e. clear-sound area (yields (length area) Nowhere 0 area Nowhere (le-refl (length area)) e);
-  none-complete = λ area c. clear-yields Nowhere 0 area c;
-  steady = λ area six offset e w.
-      let h = sound area offset w in
-      complete (sets area (offset + 2) six) offset (record {
-        before = h .before;
-        six = six;
-        rest = h .rest;
-        whole = rewritten area six offset e h;
-        place = h .place;
-        full = e;
-        skips = h .skips;
-        clear = h .clear;
-      });
-}
-
 -- ---- which fault is given
 
 -- the walk comes through what it has passed over, with what it found there
@@ -100,6 +86,10 @@ through-one before six between option s e t =
           ∙ skip (At o) (o + optionLength) between option t,
     )
 
+joined : (before six between left : List ℕ) → (before ++ (quickStartOption six ++ between)) ++ left ≡ before ++ (quickStartOption six ++ (between ++ left))
+joined before six between left =
+    append-assoc before (quickStartOption six ++ between) left ∙ ap (λ (l : List ℕ). before ++ l) (append-assoc (quickStartOption six) between left)
+
 through : (before option : List ℕ) → Passed before → (place : Place) × (k : ℕ) × (walk (before ++ option) ≡ walkOn place k 0 option)
 through _ option (no-option before s) = (Nowhere, 0 + length before, skip Nowhere 0 before option s)
 through _ option (one-option before six between s e t) =
@@ -109,31 +99,100 @@ through _ option (one-option before six between s e t) =
       ap walk (append-assoc before (quickStartOption six ++ between) option ∙ ap (λ (l : List ℕ). before ++ l) (append-assoc (quickStartOption six) between option)) ∙ w .2,
     )
 
-stopped : (place : Place) (offset n : ℕ) (option : List ℕ) → 1 ≤ length option → look place offset option ≡ fault n → walkOn place offset 0 option ≡ refuse n
-stopped place offset n option h e =
-    step place offset option h ∙ ap (λ (s : Next). goOn place s (λ found len. walkOn found (suc offset) (len - 1) (drop 1 option))) e
+stopped : (place : Place) (offset n : ℕ) (left : List ℕ) → 1 ≤ length left → look place offset left ≡ fault n → walkOn place offset 0 left ≡ refuse n
+stopped place offset n left h e =
+    step place offset left h ∙ ap (λ (s : Next). goOn place s (λ found len. walkOn found (suc offset) (len - 1) (drop 1 left))) e
 
-bad : (place : Place) (offset : ℕ) (option : List ℕ) → (kindIn option ≡ endKind → ⊥) → (kindIn option ≡ noOperation → ⊥) → lengthFits option ≡ false → look place offset option ≡ fault 3
+-- bytes that begin with no end have a first byte
+begun : (left : List ℕ) → (kindIn left ≡ 0 → ⊥) → 1 ≤ length left
+begun [] n = absurd (n refl)
+begun (b ∷ rest) n = omega arith
+
+bad : (place : Place) (offset : ℕ) (left : List ℕ) → (kindIn left ≡ 0 → ⊥) → (kindIn left ≡ 1 → ⊥) → lengthFits left ≡ false → look place offset left ≡ fault 3
 unfolding look
-bad place offset option a b f = simp (ne-eqb _ _ a, ne-eqb _ _ b, f)
+bad place offset left a b f = simp (ne-eqb _ _ a, ne-eqb _ _ b, f)
 
-wrong : (place : Place) (offset : ℕ) (option : List ℕ) → kindIn option ≡ requestKind → lengthFits option ≡ true → (lengthIn option ≡ optionLength → ⊥) → look place offset option ≡ fault 5
+wrong : (place : Place) (offset : ℕ) (left : List ℕ) → kindIn left ≡ requestKind → lengthFits left ≡ true → (lengthIn left ≡ optionLength → ⊥) → look place offset left ≡ fault 5
 unfolding look
-wrong place offset option k f n = simp (k, f, other-length place offset (lengthIn option) n)
+wrong place offset left k f n = simp (k, f, laws.other-length place offset (lengthIn left) n)
 
-again : (o offset : ℕ) (option : List ℕ) → kindIn option ≡ requestKind → lengthFits option ≡ true → look (At o) offset option ≡ fault 5
+again : (o offset : ℕ) (left : List ℕ) → kindIn left ≡ requestKind → lengthFits left ≡ true → look (At o) offset left ≡ fault 5
 unfolding look
-again o offset option k f = simp (k, f)
+again o offset left k f = simp (k, f)
 
--- an option whose length fits has bytes
-some-bytes : (option : List ℕ) → lengthFits option ≡ true → 1 ≤ length option
-some-bytes option f = omega (arith, fits-low option f, fits-high option f)
+fault-complete : (area : List ℕ) (n : ℕ) → Faulty n area → walk area ≡ refuse n
+fault-complete _ _ (bad-length before left p a b l) =
+    let w = through before left p in
+    w .2 ∙ stopped (w .0) (w .1) 3 left (begun left a) (bad (w .0) (w .1) left a b (no-fit left l))
+fault-complete _ _ (other-length before left p k l h n) =
+    let w = through before left p in
+    w .2 ∙ stopped (w .0) (w .1) 5 left (omega arith) (wrong (w .0) (w .1) left k (in-fit left l h) n)
+fault-complete _ _ (second before six between left s e t k l h) =
+    let w = through-one before six between left s e t in
+    w .2 ∙ stopped (At (w .0)) (w .1) 5 left (omega arith) (again (w .0) (w .1) left k (in-fit left l h))
 
-pub faults : Faults
-faults = record {
-  bad-length = λ before option p a b h f. let w = through before option p in w .2 ∙ stopped (w .0) (w .1) 3 option h (bad (w .0) (w .1) option a b f);
-  other-length = λ before option p k f n. let w = through before option p in w .2 ∙ stopped (w .0) (w .1) 5 option (some-bytes option f) (wrong (w .0) (w .1) option k f n);
-  second = λ before six between option s e t k f.
-      let w = through-one before six between option s e t in
-      w .2 ∙ stopped (At (w .0)) (w .1) 5 option (some-bytes option f) (again (w .0) (w .1) option k f);
+-- what a fault says of the bytes that it was met in
+abbrev Bad : ℕ → List ℕ → Type 0
+Bad n left = (n ≡ 3) × (kindIn left ≡ 0 → ⊥) × (kindIn left ≡ 1 → ⊥) × ((lengthIn left < 2) ⊎ (length left < lengthIn left))
+
+abbrev Wrong : Place → ℕ → List ℕ → Type 0
+Wrong place n left = (n ≡ 5) × (kindIn left ≡ 25) × (2 ≤ lengthIn left) × (lengthIn left ≤ length left) × ((lengthIn left ≡ 8 → ⊥) ⊎ ((i : ℕ) × (place ≡ At i)))
+
+says : (place : Place) (o n : ℕ) (left : List ℕ) → look place o left ≡ fault n → Bad n left ⊎ Wrong place n left
+says place o n left =
+    looks (λ (s : Next). s ≡ fault n → Bad n left ⊎ Wrong place n left) place o left
+    (λ k e. let z : _≡_ {A = ℕ} 0 1 = cc in absurd (omega arith))
+    (λ k e. let z : _≡_ {A = ℕ} 0 1 = cc in absurd (omega arith))
+    (λ a b f e. inl ((cc), a, b, fit-fails left f))
+    (λ k f w e. inr ((cc), k, fits-low left f, fits-high left f, w))
+    (λ p k l f e. let z : _≡_ {A = ℕ} 0 1 = cc in absurd (omega arith))
+    (λ a b d f e. let z : _≡_ {A = ℕ} 0 1 = cc in absurd (omega arith))
+
+faulty-at : (n : ℕ) (before left : List ℕ) → Skipped before → Bad n left ⊎ Wrong Nowhere n left → Faulty n (before ++ left)
+faulty-at n before left s (inl b) = subst (λ (k : ℕ). Faulty k (before ++ left)) (sym (b .0)) (bad-length before left (no-option before s) (b .1) (b .2) (b .3))
+faulty-at n before left s (inr (five, k, l, h, inl w)) =
+    subst (λ (k : ℕ). Faulty k (before ++ left)) (sym five) (other-length before left (no-option before s) k l h w)
+faulty-at n before left s (inr (five, k, l, h, inr w)) = let e = w .1 in let z : _≡_ {A = ℕ} 0 1 = cc in absurd (omega arith)
+
+faulty-behind : (n p : ℕ) (before six between left : List ℕ) → Skipped before → length six ≡ 6 → Skipped between → Bad n left ⊎ Wrong (At p) n left
+    → Faulty n (before ++ (quickStartOption six ++ (between ++ left)))
+faulty-behind n p before six between left s f t (inl b) =
+    subst (λ (l : List ℕ). Faulty n l) (joined before six between left)
+    (subst (λ (k : ℕ). Faulty k ((before ++ (quickStartOption six ++ between)) ++ left)) (sym (b .0))
+    (bad-length (before ++ (quickStartOption six ++ between)) left (one-option before six between s f t) (b .1) (b .2) (b .3)))
+faulty-behind n p before six between left s f t (inr w) =
+    subst (λ (k : ℕ). Faulty k (before ++ (quickStartOption six ++ (between ++ left)))) (sym (w .0)) (second before six between left s f t (w .1) (w .2) (w .3))
+
+fault-sound : (area : List ℕ) (n : ℕ) → Yields Nowhere 0 area (refuse n) → Faulty n area
+fault-sound area n (clear e c) = let z : _≡_ {A = ℕ} 0 1 = cc in absurd (omega arith)
+fault-sound area n (holds o m e h) = let z : _≡_ {A = ℕ} 0 1 = cc in absurd (omega arith)
+fault-sound area n (breaks m e (at-once before left o s w l)) =
+    let same : m ≡ n = cc in
+    subst (λ (k : ℕ). Faulty k area) same (subst (λ (x : List ℕ). Faulty m x) (sym w) (faulty-at m before left s (says Nowhere o m left l)))
+fault-sound area n (breaks m e (behind before six between left p o x s f t w l)) =
+    let same : m ≡ n = cc in
+    subst (λ (k : ℕ). Faulty k area) same
+    (subst (λ (y : List ℕ). Faulty m y) (sym w) (faulty-behind m p before six between left s f t (says (At p) o m left l)))
+
+pub walking : Walking
+walking = record {
+  sound = sound;
+  complete = complete;
+  room = λ area offset e. room area offset (sound area offset e);
+  none-sound = λ area e. clear-sound area (all-yields area (answer Nowhere) e);
+  none-complete = λ area c. clear-yields Nowhere 0 area c;
+  fault-sound = λ area n e. fault-sound area n (all-yields area (refuse n) e);
+  fault-complete = fault-complete;
+  steady = λ area six offset e w.
+      let h = sound area offset w in
+      complete (sets area (offset + 2) six) offset (record {
+        before = h .before;
+        six = six;
+        rest = h .rest;
+        whole = rewritten area six offset e h;
+        place = h .place;
+        full = e;
+        skips = h .skips;
+        clear = h .clear;
+      });
 }

@@ -2,6 +2,7 @@
 use Prim.Native.Nat.{ℕ, zero, suc, _+_, _-_, _≤_, _<_}
 use mathlib.Core.Bool.{Bool, true, false, _&&_}
 use mathlib.Core.List.{List, [], _∷_, _++_}
+use mathlib.Core.Logic.{_⊎_, inl, inr}
 use mathlib.Core.Path.{_≡_, refl, sym, ap, ap₂, _∙_}
 use native.Mathlib.Nat.{add-zero}
 use native.Mathlib.Omega.{arith}
@@ -10,7 +11,7 @@ use lib.Dec.{leb, eqb}
 use lib.ListN.{length, getD, drop, length-drop, drop-of-length-le}
 use lib.Seq.{getD-drop, drop-cons, drop-drop}
 use Rattle.common.specs.Choice.{pick, within}
-use Rattle.common.proofs.Choice.{by-test, by-eqb, within-low, within-high}
+use Rattle.common.proofs.Choice.{by-test, by-eqb, le-or-gt, within-low, within-high, in-within}
 use Rattle.refusals.specs.Reply.{Reply, answer, refuse}
 use Rattle.options.specs.Wire.{optionLength, kindIn, lengthIn}
 use Rattle.options.specs.Requests.{requestKind}
@@ -18,25 +19,13 @@ use Rattle.walk.specs.declared.Place.{Place}
 use Rattle.walk.specs.declared.Place.the-variants.{Nowhere, At}
 use Rattle.walk.specs.Walks.{Next, end, fault, past, endKind, noOperation, lengthFits, quickStart, look, goOn, walkOn, walk}
 
--- an option's reading by its type, its length byte and the bytes that are left
-abbrev pub lookBy : Place → ℕ → ℕ → ℕ → ℕ → Next
-lookBy place offset kind len room =
-    pick (eqb kind endKind) end
-    (pick (eqb kind noOperation) (past place 1)
-    (pick (within 2 len room) (pick (eqb kind requestKind) (quickStart place offset len) (past place len)) (fault 3)))
-
-pub looked : (place : Place) (offset : ℕ) (area : List ℕ)
-    → look place offset (drop offset area) ≡ lookBy place offset (getD area offset 0) (getD area (offset + 1) 0) (length area - offset)
-unfolding look lengthFits
-looked place offset area = simp (getD-drop offset area 0 0, getD-drop offset area 1 0, length-drop offset area, add-zero offset)
-
 -- with less than two bytes left no length fits
-pub no-room : (len room : ℕ) → room < 2 → within 2 len room ≡ false
-unfolding within
-no-room len room h = go (leb 2 len) refl
+pub no-room : (option : List ℕ) → length option < 2 → lengthFits option ≡ false
+unfolding lengthFits within
+no-room option h = go (leb 2 (lengthIn option)) refl
   where
-    go : (t : Bool) → leb 2 len ≡ t → t && leb len room ≡ false
-    go true e = let l = leb-true 2 len e in lt-leb len room (omega arith)
+    go : (t : Bool) → leb 2 (lengthIn option) ≡ t → t && leb (lengthIn option) (length option) ≡ false
+    go true e = let l = leb-true 2 (lengthIn option) e in lt-leb (lengthIn option) (length option) (omega arith)
     go false e = refl
 
 -- a type 25 of another length, whatever was found before it
@@ -44,37 +33,35 @@ pub other-length : (place : Place) (offset len : ℕ) → (len ≡ optionLength 
 other-length Nowhere offset len h = simp (ne-eqb len optionLength h)
 other-length (At o) offset len h = refl
 
--- a first type 25 of length 8, and a second one
-pub first : (offset kind len room : ℕ) → kind ≡ requestKind → len ≡ optionLength → len ≤ room → lookBy Nowhere offset kind len room ≡ past (At offset) len
-unfolding within
-first offset kind len room k l r = simp (k, l, le-leb optionLength room (omega arith))
-
-pub second : (o offset kind len room : ℕ) → kind ≡ requestKind → 2 ≤ len → len ≤ room → lookBy (At o) offset kind len room ≡ fault 5
-unfolding within
-second o offset kind len room k l r = simp (k, le-leb 2 len l, le-leb len room r)
+-- a first type 25 of length 8
+pub first : (place : Place) (offset : ℕ) (option : List ℕ) → place ≡ Nowhere → kindIn option ≡ requestKind → lengthIn option ≡ optionLength → lengthIn option ≤ length option
+    → past (At offset) (lengthIn option) ≡ look place offset option
+unfolding look lengthFits within
+first place offset option p k l r = simp (p, k, l, le-leb optionLength (length option) (omega arith))
 
 -- what is proved of every way that an option can be read holds of its reading
-pub looks : (P : Next → Type 0) (place : Place) (offset : ℕ) (option : List ℕ)
-    → (kindIn option ≡ endKind → P end)
-    → (kindIn option ≡ noOperation → P (past place 1))
-    → (lengthFits option ≡ false → P (fault 3))
-    → (kindIn option ≡ requestKind → P (fault 5))
-    → (place ≡ Nowhere → kindIn option ≡ requestKind → lengthIn option ≡ optionLength → lengthFits option ≡ true → P (past (At offset) (lengthIn option)))
-    → ((kindIn option ≡ endKind → ⊥) → (kindIn option ≡ noOperation → ⊥) → (kindIn option ≡ requestKind → ⊥) → lengthFits option ≡ true → P (past place (lengthIn option)))
-    → P (look place offset option)
+pub looks : (P : Next → Type 0) (place : Place) (offset : ℕ) (left : List ℕ)
+    → (kindIn left ≡ endKind → P end)
+    → (kindIn left ≡ noOperation → P (past place 1))
+    → ((kindIn left ≡ endKind → ⊥) → (kindIn left ≡ noOperation → ⊥) → lengthFits left ≡ false → P (fault 3))
+    → (kindIn left ≡ requestKind → lengthFits left ≡ true → (lengthIn left ≡ optionLength → ⊥) ⊎ ((i : ℕ) × (place ≡ At i)) → P (fault 5))
+    → (place ≡ Nowhere → kindIn left ≡ requestKind → lengthIn left ≡ optionLength → lengthFits left ≡ true → P (past (At offset) (lengthIn left)))
+    → ((kindIn left ≡ endKind → ⊥) → (kindIn left ≡ noOperation → ⊥) → (kindIn left ≡ requestKind → ⊥) → lengthFits left ≡ true → P (past place (lengthIn left)))
+    → P (look place offset left)
 unfolding look
-looks P place offset option e n f q s o =
-    by-eqb P (kindIn option) endKind e
-    (λ no-end. by-eqb P (kindIn option) noOperation n
-    (λ no-filler. by-test P (lengthFits option)
-    (λ fits. by-eqb P (kindIn option) requestKind (λ k. request place k fits s) (λ no-request. o no-end no-filler no-request fits))
-    f))
+looks P place offset left e n f q s o =
+    by-eqb P (kindIn left) endKind e
+    (λ no-end. by-eqb P (kindIn left) noOperation n
+    (λ no-filler. by-test P (lengthFits left)
+    (λ fits. by-eqb P (kindIn left) requestKind (λ k. request place (q k fits) (λ p l. s p k l fits)) (λ no-request. o no-end no-filler no-request fits))
+    (f no-end no-filler)))
   where
-    request : (before : Place) → kindIn option ≡ requestKind → lengthFits option ≡ true
-        → (before ≡ Nowhere → kindIn option ≡ requestKind → lengthIn option ≡ optionLength → lengthFits option ≡ true → P (past (At offset) (lengthIn option)))
-        → P (quickStart before offset (lengthIn option))
-    request Nowhere k fits g = by-eqb P (lengthIn option) optionLength (λ l. g refl k l fits) (λ l. q k)
-    request (At b) k fits g = q k
+    request : (before : Place)
+        → ((lengthIn left ≡ optionLength → ⊥) ⊎ ((i : ℕ) × (before ≡ At i)) → P (fault 5))
+        → (before ≡ Nowhere → lengthIn left ≡ optionLength → P (past (At offset) (lengthIn left)))
+        → P (quickStart before offset (lengthIn left))
+    request Nowhere g h = by-eqb P (lengthIn left) optionLength (h refl) (λ l. g (inl l))
+    request (At b) g h = g (inr (b, refl))
 
 pub same-past : {p q : Place} {m n : ℕ} → past p m ≡ past q n → (p ≡ q) × (m ≡ n)
 same-past e = ((cc), (cc))
@@ -87,6 +74,26 @@ pub fits-high : (option : List ℕ) → lengthFits option ≡ true → lengthIn 
 unfolding lengthFits
 fits-high option e = within-high 2 (lengthIn option) (length option) e
 
+pub in-fit : (left : List ℕ) → 2 ≤ lengthIn left → lengthIn left ≤ length left → lengthFits left ≡ true
+unfolding lengthFits
+in-fit left l h = in-within 2 (lengthIn left) (length left) l h
+
+pub no-fit : (left : List ℕ) → (lengthIn left < 2) ⊎ (length left < lengthIn left) → lengthFits left ≡ false
+no-fit left o = go (lengthFits left) refl o
+  where
+    go : (t : Bool) → lengthFits left ≡ t → (lengthIn left < 2) ⊎ (length left < lengthIn left) → lengthFits left ≡ false
+    go false e o = e
+    go true e (inl h) = absurd (omega (arith, fits-low left e))
+    go true e (inr h) = absurd (omega (arith, fits-high left e))
+
+pub fit-fails : (left : List ℕ) → lengthFits left ≡ false → (lengthIn left < 2) ⊎ (length left < lengthIn left)
+fit-fails left e = go (le-or-gt 2 (lengthIn left)) (le-or-gt (lengthIn left) (length left))
+  where
+    go : (2 ≤ lengthIn left) ⊎ (lengthIn left < 2) → (lengthIn left ≤ length left) ⊎ (length left < lengthIn left) → (lengthIn left < 2) ⊎ (length left < lengthIn left)
+    go (inr l) o = inl l
+    go (inl l) (inr h) = inr h
+    go (inl l) (inl h) = let z : true ≡ false = sym (in-fit left l h) ∙ e in let y : _≡_ {A = ℕ} 0 1 = cc in absurd (omega arith)
+
 -- an option that the walk goes past has at least one byte, and lies in the area
 pub past-fits : (place found : Place) (offset len : ℕ) (option : List ℕ) → 1 ≤ length option → look place offset option ≡ past found len
     → (1 ≤ len) × (len ≤ length option)
@@ -94,8 +101,8 @@ past-fits place found offset len option h =
     looks (λ (s : Next). s ≡ past found len → (1 ≤ len) × (len ≤ length option)) place offset option
     (λ k e. let z : _≡_ {A = ℕ} 0 1 = cc in absurd (omega arith))
     (λ k e. let s : 1 ≡ len = same-past e .1 in (omega arith, omega arith))
-    (λ k e. let z : _≡_ {A = ℕ} 0 1 = cc in absurd (omega arith))
-    (λ k e. let z : _≡_ {A = ℕ} 0 1 = cc in absurd (omega arith))
+    (λ a b f e. let z : _≡_ {A = ℕ} 0 1 = cc in absurd (omega arith))
+    (λ k f o e. let z : _≡_ {A = ℕ} 0 1 = cc in absurd (omega arith))
     (λ p k l f e. let s : lengthIn option ≡ len = same-past e .1 in (omega (arith, fits-low option f), omega (arith, fits-high option f)))
     (λ a b d f e. let s : lengthIn option ≡ len = same-past e .1 in (omega (arith, fits-low option f), omega (arith, fits-high option f)))
 

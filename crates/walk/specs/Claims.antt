@@ -1,37 +1,38 @@
--- What is claimed of the walk beyond its contract: which areas it finds a Quick-Start option in, and where; which have none; and which are faulty. Areas are told here
--- by what they are made of, not by walking them. Assumes nothing.
-use Prim.Native.Nat.{ℕ, suc, _+_, _≤_}
-use mathlib.Core.Bool.{true, false}
+-- What is claimed of the walk beyond its contract: in which areas it finds a Quick-Start option, and where; which have none; and which are faulty. Areas are told here
+-- by what they are made of, not by walking them, and types and lengths are the paper's numbers. Assumes nothing.
+use Prim.Native.Nat.{ℕ, suc, _+_, _≤_, _<_}
 use mathlib.Core.List.{List, [], _∷_, _++_}
 use mathlib.Core.Logic.{_⊎_}
 use mathlib.Core.Path.{_≡_}
 use lib.ListN.{length, getD}
 use lib.Seq.{sets}
 use Rattle.refusals.specs.Reply.{answer, refuse}
-use Rattle.options.specs.Wire.{optionLength, kindIn, lengthIn}
-use Rattle.options.specs.Requests.{requestKind}
+use Rattle.options.specs.Wire.{kindIn, lengthIn}
 use Rattle.walk.specs.declared.Place.the-variants.{Nowhere, At}
-use Rattle.walk.specs.Walks.{endKind, noOperation, lengthFits, walk}
+use Rattle.walk.specs.Walks.{walk}
 
--- a well-formed option of another type: its length byte is its length
+-- ---- what areas are made of
+
+-- a well-formed option of another type than 25, and neither an end nor a no-operation: its length byte is its length
 pub record Other (option : List ℕ) : Type 0 where
-  pub no-end : kindIn option ≡ endKind → ⊥
-  pub no-filler : kindIn option ≡ noOperation → ⊥
-  pub no-request : kindIn option ≡ requestKind → ⊥
+  pub no-end : kindIn option ≡ 0 → ⊥
+  pub no-filler : kindIn option ≡ 1 → ⊥
+  pub no-request : kindIn option ≡ 25 → ⊥
   pub long : 2 ≤ length option
   pub told : lengthIn option ≡ length option
 
 -- bytes made of no-operations and well-formed options of other types
 pub data Skipped : List ℕ → Type 0 where
   none : Skipped []
-  filler : (rest : List ℕ) → Skipped rest → Skipped (noOperation ∷ rest)
+  filler : (rest : List ℕ) → Skipped rest → Skipped (1 ∷ rest)
   other : (option rest : List ℕ) → Other option → Skipped rest → Skipped (option ++ rest)
 
--- an area without a fault and without a type 25: such bytes up to the area's last byte, or up to an end with anything behind it
+-- the area's last byte, or an end with anything behind it
 pub data Ended : List ℕ → Type 0 where
   last : Ended []
-  end : (behind : List ℕ) → Ended (endKind ∷ behind)
+  end : (behind : List ℕ) → Ended (0 ∷ behind)
 
+-- an area without a fault and without a type 25
 pub record Clear (area : List ℕ) : Type 0 where
   pub skipped : List ℕ
   pub rest : List ℕ
@@ -41,9 +42,9 @@ pub record Clear (area : List ℕ) : Type 0 where
 
 -- a Quick-Start option: 25, 8 and any six bytes
 abbrev pub quickStartOption : List ℕ → List ℕ
-quickStartOption six = requestKind ∷ optionLength ∷ six
+quickStartOption six = 25 ∷ 8 ∷ six
 
--- an area that has a Quick-Start option at an offset and nowhere else, and no fault
+-- an area without a fault that has a Quick-Start option at an offset and nowhere else
 pub record Holds (offset : ℕ) (area : List ℕ) : Type 0 where
   pub before : List ℕ
   pub six : List ℕ
@@ -54,31 +55,33 @@ pub record Holds (offset : ℕ) (area : List ℕ) : Type 0 where
   pub skips : Skipped before
   pub clear : Clear rest
 
--- what a walk finds is there, and what is there it finds
-pub record Walking : Type 0 where
-  pub sound : (area : List ℕ) (offset : ℕ) → walk area ≡ answer (At offset) → Holds offset area
-  pub complete : (area : List ℕ) (offset : ℕ) → Holds offset area → walk area ≡ answer (At offset)
-  -- the option lies wholly in the area
-  pub room : (area : List ℕ) (offset : ℕ) → walk area ≡ answer (At offset)
-      → (offset + optionLength ≤ length area) × (getD area offset 0 ≡ requestKind) × (getD area (suc offset) 0 ≡ optionLength)
-  pub none-sound : (area : List ℕ) → walk area ≡ answer Nowhere → Clear area
-  pub none-complete : (area : List ℕ) → Clear area → walk area ≡ answer Nowhere
-  -- place and faultlessness stay when the six bytes after the length are overwritten
-  pub steady : (area six : List ℕ) (offset : ℕ) → length six ≡ 6 → walk area ≡ answer (At offset) → walk (sets area (offset + 2) six) ≡ answer (At offset)
-
 -- what the walk has passed over without a fault: no Quick-Start option, or one
 pub data Passed : List ℕ → Type 0 where
   no-option : (before : List ℕ) → Skipped before → Passed before
   one-option : (before six between : List ℕ) → Skipped before → length six ≡ 6 → Skipped between → Passed (before ++ (quickStartOption six ++ between))
 
--- which fault is given: 3 for a bad length, also of a type 25; 5 for a type 25 whose length fits and is not 8, or that is a second one
-pub record Faults : Type 0 where
-  pub bad-length : (before option : List ℕ) → Passed before
-      → (kindIn option ≡ endKind → ⊥) → (kindIn option ≡ noOperation → ⊥) → 1 ≤ length option → lengthFits option ≡ false
-      → walk (before ++ option) ≡ refuse 3
-  pub other-length : (before option : List ℕ) → Passed before
-      → kindIn option ≡ requestKind → lengthFits option ≡ true → (lengthIn option ≡ optionLength → ⊥)
-      → walk (before ++ option) ≡ refuse 5
-  pub second : (before six between option : List ℕ) → Skipped before → length six ≡ 6 → Skipped between
-      → kindIn option ≡ requestKind → lengthFits option ≡ true
-      → walk (before ++ (quickStartOption six ++ (between ++ option))) ≡ refuse 5
+-- an area with a fault, and its number: 3 for a length byte that is missing (it reads as 0), below 2 or above what is left, of a type 25 too; 5 for a type 25 whose
+-- length is none of these and not 8, or that is a second one
+pub data Faulty : ℕ → List ℕ → Type 0 where
+  bad-length : (before left : List ℕ) → Passed before → (kindIn left ≡ 0 → ⊥) → (kindIn left ≡ 1 → ⊥) → (lengthIn left < 2) ⊎ (length left < lengthIn left)
+      → Faulty 3 (before ++ left)
+  other-length : (before left : List ℕ) → Passed before → kindIn left ≡ 25 → 2 ≤ lengthIn left → lengthIn left ≤ length left → (lengthIn left ≡ 8 → ⊥)
+      → Faulty 5 (before ++ left)
+  second : (before six between left : List ℕ) → Skipped before → length six ≡ 6 → Skipped between → kindIn left ≡ 25 → 2 ≤ lengthIn left → lengthIn left ≤ length left
+      → Faulty 5 (before ++ (quickStartOption six ++ (between ++ left)))
+
+-- ---- the claims
+
+-- whatever the walk yields, the area is made so (sound), and whatever an area is made of, the walk yields it (complete)
+pub record Walking : Type 0 where
+  pub sound : (area : List ℕ) (offset : ℕ) → walk area ≡ answer (At offset) → Holds offset area
+  pub complete : (area : List ℕ) (offset : ℕ) → Holds offset area → walk area ≡ answer (At offset)
+  pub none-sound : (area : List ℕ) → walk area ≡ answer Nowhere → Clear area
+  pub none-complete : (area : List ℕ) → Clear area → walk area ≡ answer Nowhere
+  pub fault-sound : (area : List ℕ) (n : ℕ) → walk area ≡ refuse n → Faulty n area
+  pub fault-complete : (area : List ℕ) (n : ℕ) → Faulty n area → walk area ≡ refuse n
+  -- what is found is a type 25 of length 8 that lies wholly in the area
+  pub room : (area : List ℕ) (offset : ℕ) → walk area ≡ answer (At offset)
+      → (offset + 8 ≤ length area) × (getD area offset 0 ≡ 25) × (getD area (suc offset) 0 ≡ 8)
+  -- place and faultlessness stay when the six bytes after the length are overwritten
+  pub steady : (area six : List ℕ) (offset : ℕ) → length six ≡ 6 → walk area ≡ answer (At offset) → walk (sets area (offset + 2) six) ≡ answer (At offset)

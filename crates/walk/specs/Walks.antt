@@ -24,10 +24,10 @@ endKind = 0
 abbrev pub noOperation : ℕ
 noOperation = 1
 
--- "any other has a length byte of at least 2 that fits; a missing one is bad": `option` is all that is left of the area from the option's type on, and a missing
--- length byte reads as 0
+-- "any other has a length byte of at least 2 that fits; a missing one is bad". `left` is all that is left of the area, from an option's type on; a length byte that is
+-- missing reads as 0
 unfoldable pub lengthFits : List ℕ → Bool
-lengthFits option = within 2 (lengthIn option) (length option)
+lengthFits left = within 2 (lengthIn left) (length left)
 
 -- a type 25 at an offset, after what was found before it: "type 25 with a length not 8, or a second type 25 (5)"
 abbrev pub quickStart : Place → ℕ → ℕ → Next
@@ -36,11 +36,11 @@ quickStart (At before) offset len = fault 5
 
 -- "At each option a bad length is tested first (3)"
 unfoldable pub look : Place → ℕ → List ℕ → Next
-look place offset option =
-    pick (eqb (kindIn option) endKind) end
-    (pick (eqb (kindIn option) noOperation) (past place 1)
-    (pick (lengthFits option)
-    (pick (eqb (kindIn option) requestKind) (quickStart place offset (lengthIn option)) (past place (lengthIn option)))
+look place offset left =
+    pick (eqb (kindIn left) endKind) end
+    (pick (eqb (kindIn left) noOperation) (past place 1)
+    (pick (lengthFits left)
+    (pick (eqb (kindIn left) requestKind) (quickStart place offset (lengthIn left)) (past place (lengthIn left)))
     (fault 3)))
 
 abbrev pub goOn : Place → Next → (Place → ℕ → Reply Place) → Reply Place

@@ -1,7 +1,7 @@
 // The walk of an IPv4 header's options area: where its Quick-Start option stands, if it has one.
 ghost use mathlib.Core.Path.{_≡_};
 ghost use Prim.Native.Nat.{_<_};
-ghost use lib.ListN.{length, drop};
+ghost use lib.ListN.{length};
 ghost use Rattle.walk.specs.Walks.{look, walk};
 ghost use Rattle.walk.specs.Replies.{stepTold, findingTold};
 use options::OPTION_LENGTH;
@@ -16,7 +16,8 @@ const NO_OPERATION: u8 = 1;
 // The least length byte: it counts the type and itself.
 const LEAST_LENGTH: usize = 2;
 
-// Where the Quick-Start option stands, by the offset of its type.
+// Where a Quick-Start option stands: the offset of its type in the bytes that were looked through, which
+// are an options area here, and a packet where a packet is looked through.
 pub enum Place {
     Nowhere,
     At(usize),
@@ -35,28 +36,27 @@ enum Step {
     Past { place: Place, length: usize },
 }
 
-// Looks at the option that begins at an offset. A bad length is tested before anything that is
-// special to Quick-Start.
-fn look(area: &[u8], at: usize, place: Place) -> Step
-    requires { ⌜ at < length (now area) ⌝ }
-    ensures { λ r. ⌜ stepTold r ≡ look place at (drop at (now (area .entry))) ⌝ }
+// Looks at one option: `option` is what is left of the area from the option's type on, and `at` is its
+// offset. A bad length is tested before anything that is special to Quick-Start.
+fn look(option: &[u8], at: usize, place: Place) -> Step
+    requires { ⌜ 0 < length (now option) ⌝ }
+    ensures { λ r. ⌜ stepTold r ≡ look place at (now (option .entry)) ⌝ }
 {
-    let kind = area[at];
+    let kind = option[0];
     if kind == END {
         return Step::End;
     }
     if kind == NO_OPERATION {
         return Step::Past { place, length: 1 };
     }
-    let room = area.len() - at;
-    if room < LEAST_LENGTH {
+    if option.len() < LEAST_LENGTH {
         return Step::Fault(Refusal::OptionLength);
     }
-    let length = area[at + 1] as usize;
+    let length = option[1] as usize;
     if length < LEAST_LENGTH {
         return Step::Fault(Refusal::OptionLength);
     }
-    if length > room {
+    if length > option.len() {
         return Step::Fault(Refusal::OptionLength);
     }
     if kind != REQUEST {
@@ -84,7 +84,7 @@ pub fn find(area: &[u8]) -> Finding
         if at >= area.len() {
             break Finding::Found(place);
         }
-        match look(area, at, place) {
+        match look(&area[at..], at, place) {
             Step::End => break Finding::Found(place),
             Step::Fault(why) => break 'walk Finding::Refused(why),
             Step::Past {

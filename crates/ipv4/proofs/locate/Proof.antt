@@ -10,7 +10,7 @@ use Rattle.walk.specs.declared.Place.{Place}
 use Rattle.walk.specs.declared.Place.the-variants.{Nowhere, At}
 use Rattle.walk.specs.Replies.{findingTold}
 use Rattle.walk.specs.Walks.{walk}
-use Rattle.ipv4.specs.Headers.{leastHeader, headerLength}
+use Rattle.ipv4.specs.Headers.{optionsPlace, headerLength}
 use Rattle.ipv4.specs.Replies.{checkedTold}
 use Rattle.ipv4.specs.Checks.{headerChecked}
 use Rattle.ipv4.proofs.HeaderLaws.{Good, good}
@@ -61,7 +61,7 @@ enum-known-place-2 c = search needs
 
 -- what the walk found
 at-place : (c : tie.After-known-told5) →
-    let area = take (c .before .before .before .before .before .before .before .before .before .h .given .0 .0 - leastHeader) (drop leastHeader (c .before .before .before .before .before .before .before .before .before .before .before .before .before .args .packet .now)) in
+    let area = take (c .before .before .before .before .before .before .before .before .before .h .given .0 .0 - optionsPlace) (drop optionsPlace (c .before .before .before .before .before .before .before .before .before .before .before .before .before .args .packet .now)) in
     answer (At (c .before .place2 .given .0 .0)) ≡ walk area
 at-place c =
     ap (λ (p : Place). answer p) (sym (c .before .place2 .given .1)) ∙ sym (ap findingTold (c .before .before .before .before .place .given .1)) ∙ c .before .before .before .before .before .before .find .ensures

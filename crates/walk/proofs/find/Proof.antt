@@ -2,8 +2,9 @@
 use Prim.Native.Nat.{_+_, _-_, _≤_}
 use mathlib.Core.Path.{_≡_, refl, sym, ap, _∙_}
 use native.Mathlib.Omega.{arith}
-use lib.ListN.{length, drop}
-use Rattle.walk.specs.Walks.{walkOn, walk}
+use lib.ListN.{length, drop, length-drop}
+use Rattle.common.proofs.Lists.{take-rest}
+use Rattle.walk.specs.Walks.{look, walkOn, walk}
 use Rattle.walk.specs.Replies.{stepTold}
 use Rattle.walk.proofs.WalkLaws.{at-last, at-end, at-fault, at-past}
 use borrow.Author.Needs.{needs}
@@ -19,8 +20,23 @@ abbrev μ-walk : tie.MeasureT-walk
 walk-holds : tie.Need-walk-holds Inv-walk μ-walk
 walk-holds c = (omega arith, refl)
 
+sub-look : tie.Need-sub-look Inv-walk μ-walk
+sub-look c = search needs
+
+part-look-start : tie.Need-part-look-start Inv-walk μ-walk
+part-look-start c = search needs
+
+part-look-end : tie.Need-part-look-end Inv-walk μ-walk
+part-look-end c = search needs
+
 look-requires : tie.Need-look-requires Inv-walk μ-walk
-look-requires c κs = search needs
+look-requires c κs = rw (take-rest (c .before .before .walk .at) (c .before .before .before .before .args .area .now), length-drop (c .before .before .walk .at) (c .before .before .before .before .args .area .now)) (omega arith)
+
+-- what was read at an option
+looked : (c : tie.After-look Inv-walk μ-walk) →
+    let w = c .before .before .before .walk in
+    stepTold (c .look .result) ≡ look (w .place) (w .at) (drop (w .at) (c .before .before .before .before .before .args .area .now))
+looked c = let w = c .before .before .before .walk in c .look .ensures ∙ ap (look (w .place) (w .at)) (take-rest (w .at) (c .before .before .before .before .before .args .area .now))
 
 enum-told : tie.Need-enum-told Inv-walk μ-walk
 enum-told c = search needs
@@ -33,18 +49,17 @@ enum-known-found c = search needs
 
 -- what is known past an option
 turned : (c : tie.After-known-told2 Inv-walk μ-walk) →
-    let area = c .before .before .before .before .before .before .before .args .area .now in
-    let at = c .before .before .before .before .before .walk .at in
+    let area = c .before .before .before .before .before .before .before .before .args .area .now in
+    let at = c .before .before .before .before .before .before .walk .at in
     let found = c .before .found .given .0 .0 in
     let len = c .before .found .given .0 .1 .0 in
     (1 ≤ len) × (at + len ≤ length area) × (walkOn found (at + len) 0 (drop (at + len) area) ≡ walk area)
 turned c =
-    let w = c .before .before .before .before .before .walk in
-    at-past (c .before .before .before .before .before .before .before .args .area .now) (w .place) (w .at) (w .inv .1) (c .before .before .before .before .if1 .left) _ _
-    (sym (ap stepTold (c .before .found .given .1)) ∙ c .before .before .before .look .ensures)
+    let w = c .before .before .before .before .before .before .walk in
+    at-past (c .before .before .before .before .before .before .before .before .args .area .now) (w .place) (w .at) (w .inv .1) (c .before .before .before .before .before .if1 .left) _ _ (sym (ap stepTold (c .before .found .given .1)) ∙ looked (c .before .before .before))
 
 add-at : tie.Need-add-at Inv-walk μ-walk
-add-at c = let n = turned c in omega (arith, c .before .before .before .before .before .before .before .good)
+add-at c = let n = turned c in omega (arith, c .before .before .before .before .before .before .before .before .good)
 
 walk-less : tie.Need-walk-less Inv-walk μ-walk
 walk-less c = let n = turned c in omega arith
@@ -57,15 +72,13 @@ returns c = let w = c .before .walk in at-last (c .before .before .before .args 
 
 returns-2 : tie.Need-returns-2 Inv-walk μ-walk
 returns-2 c =
-    let w = c .before .before .before .before .walk in
-    at-end (c .before .before .before .before .before .before .args .area .now) (w .place) (w .at) (w .inv .1) (c .before .before .before .if1 .left)
-    (sym (ap stepTold (c .enum-told .given .1)) ∙ c .before .before .look .ensures)
+    let w = c .before .before .before .before .before .walk in
+    at-end (c .before .before .before .before .before .before .before .args .area .now) (w .place) (w .at) (w .inv .1) (c .before .before .before .before .if1 .left) (sym (ap stepTold (c .enum-told .given .1)) ∙ looked (c .before .before))
 
 returns-3 : tie.Need-returns-3 Inv-walk μ-walk
 returns-3 c =
-    let w = c .before .before .before .before .before .walk in
-    at-fault (c .before .before .before .before .before .before .before .args .area .now) (w .place) (w .at) (w .inv .1) (c .before .before .before .before .if1 .left) _
-    (sym (ap stepTold (c .before .why .given .1)) ∙ c .before .before .before .look .ensures)
+    let w = c .before .before .before .before .before .before .walk in
+    at-fault (c .before .before .before .before .before .before .before .before .args .area .now) (w .place) (w .at) (w .inv .1) (c .before .before .before .before .before .if1 .left) _ (sym (ap stepTold (c .before .why .given .1)) ∙ looked (c .before .before .before))
 
 pub find-spec : {M : Type 1} → statement M
 find-spec =
@@ -74,6 +87,9 @@ find-spec =
     Inv-walk
     μ-walk
     walk-holds
+    sub-look
+    part-look-start
+    part-look-end
     look-requires
     enum-told
     enum-known-why
