@@ -1,50 +1,28 @@
 // Runs the lowest layers on the documents' figures and on both sides of every boundary, and prints
 // what they answer, a line for each call: its name, its arguments, and its answer or refusal.
-use libc::STDOUT_FILENO;
 use options::Written;
 use options::nonce;
 use options::nonce::Agreement;
 use options::nonce::Nonce;
 use options::request;
 use options::response;
+use printing::bytes;
+use printing::number;
+use printing::say;
 use rates::Code;
 use rates::Rate;
 use rates::Window;
 use refusals::Refusal;
 
-fn say(text: &[u8]) {
-    io::write_all(STDOUT_FILENO, text);
-}
-
-fn number(n: u64) {
-    say(b" ");
-    io::print_decimal(STDOUT_FILENO, n);
-}
-
 // The end of a line with a number for the answer.
 fn answer(n: u64) {
     say(b":");
-    number(n);
-    say(b"\n");
+    printing::answer(n);
 }
 
 fn refused(why: Refusal) {
-    say(b": refused");
-    number(why.number() as u64);
-    say(b"\n");
-}
-
-fn byte(b: u8) {
-    say(b" ");
-    io::print_hex(STDOUT_FILENO, b as u64, 2);
-}
-
-fn bytes(option: &[u8]) {
-    let mut i = 0;
-    while i < option.len() {
-        byte(option[i]);
-        i += 1;
-    }
+    say(b":");
+    printing::refused(why);
 }
 
 fn rate(code: u32) {

@@ -1,15 +1,15 @@
--- `cases_formats::bytes` ends: what is left of the option falls with each turn. Assumes nothing.
+-- `printing::bytes` ends: what is left of the part falls with each turn. Assumes nothing.
 use Prim.Native.Nat.{_≤_, _-_}
 use lib.ListN.{length}
 use borrow.Author.Needs.{needs}
-use Rattle.cases_formats.proofs.bytes.Statement.{statement}
-use Rattle.cases_formats.proofs.bytes.Tie as tie
+use Rattle.printing.proofs.bytes.Statement.{statement}
+use Rattle.printing.proofs.bytes.Tie as tie
 
 abbrev Inv-loop : tie.InvT-loop
-Inv-loop option i₀ i = i ≤ length option
+Inv-loop part i₀ i = i ≤ length part
 
 abbrev μ-loop : tie.MeasureT-loop
-μ-loop option i₀ i = length option - i
+μ-loop part i₀ i = length part - i
 
 loop-holds : tie.Need-loop-holds Inv-loop μ-loop
 loop-holds c = search needs
