@@ -18,15 +18,9 @@ use Rattle.walk.specs.declared.Place.the-variants.{Nowhere, At}
 use Rattle.walk.specs.Walks.{Next, end, fault, past, endKind, noOperation, lengthFits, look, goOn, walkOn, walk}
 use Rattle.walk.specs.Claims.{Other, Skipped, none, filler, other, Ended, last, Clear, quickStartOption, Holds}
 use Rattle.walk.specs.Claims as claims
-use Rattle.walk.proofs.WalkLaws.{looks, fits-low, fits-high, step, goes-past}
+use Rattle.walk.proofs.WalkLaws.{reads-first, reads-other, looks, fits-low, fits-high, step, goes-past}
 
 -- ---- what the walk makes of an option
-
-pub look-other : (place : Place) (offset : ℕ) (option : List ℕ)
-    → (kindIn option ≡ endKind → ⊥) → (kindIn option ≡ noOperation → ⊥) → (kindIn option ≡ requestKind → ⊥) → lengthFits option ≡ true
-    → look place offset option ≡ past place (lengthIn option)
-unfolding look
-look-other place offset option a b c f = simp (ne-eqb _ _ a, ne-eqb _ _ b, ne-eqb _ _ c, f)
 
 -- an option's own bytes come first: its type and its length byte are those of the bytes from it on
 fronts : (option rest : List ℕ) → 2 ≤ length option → (kindIn (option ++ rest) ≡ kindIn option) × (lengthIn (option ++ rest) ≡ lengthIn option)
@@ -42,7 +36,7 @@ skip-other : (place : Place) (offset : ℕ) (option rest : List ℕ) → Other o
 skip-other place offset option rest o =
     let f = fronts option rest (o .long) in
     let l : look place offset (option ++ rest) ≡ past place (length option) =
-    look-other place offset (option ++ rest) (λ e. o .no-end (sym (f .0) ∙ e)) (λ e. o .no-filler (sym (f .0) ∙ e)) (λ e. o .no-request (sym (f .0) ∙ e))
+    reads-other place offset (option ++ rest) (λ e. o .no-end (sym (f .0) ∙ e)) (λ e. o .no-filler (sym (f .0) ∙ e)) (λ e. o .no-request (sym (f .0) ∙ e))
     (fits-in option rest (o .long) (o .told))
     ∙ ap (λ (k : ℕ). past place k) (f .1 ∙ o .told) in
     let room : 1 ≤ length (option ++ rest) = rw (length-append option rest) (omega (arith, o .long)) in
@@ -73,7 +67,7 @@ clear-yields place offset area c =
 
 -- a Quick-Start option that is the first
 pub found : (offset : ℕ) (six rest : List ℕ) → length six ≡ 6 → walkOn Nowhere offset 0 (quickStartOption six ++ rest) ≡ walkOn (At offset) (offset + optionLength) 0 rest
-unfolding look lengthFits
+unfolding lengthFits
 found offset six rest e =
     goes-past Nowhere (At offset) offset optionLength (quickStartOption six ++ rest) (omega arith) read
     ∙ ap (λ (l : List ℕ). walkOn (At offset) (offset + optionLength) 0 l) (drop-at six rest 6 e)
@@ -82,7 +76,7 @@ found offset six rest e =
     fits = in-within 2 optionLength (length (quickStartOption six ++ rest)) (omega arith) (rw (length-append six rest) (omega arith))
 
     read : look Nowhere offset (quickStartOption six ++ rest) ≡ past (At offset) optionLength
-    read = simp fits
+    read = reads-first Nowhere offset (quickStartOption six ++ rest) refl refl fits refl
 
 -- ---- whatever the walk yields, the area is made so
 

@@ -17,8 +17,7 @@ use Rattle.walk.specs.declared.Place.{Place}
 use Rattle.walk.specs.declared.Place.the-variants.{Nowhere, At}
 use Rattle.walk.specs.Walks.{Next, fault, endKind, noOperation, lengthFits, look, goOn, walkOn, walk}
 use Rattle.walk.specs.Claims.{Skipped, Clear, quickStartOption, Holds, Passed, no-option, one-option, Faulty, bad-length, other-length, second, Walking}
-use Rattle.walk.proofs.WalkLaws.{looks, step, fits-low, fits-high, no-fit, in-fit, fit-fails}
-use Rattle.walk.proofs.WalkLaws as laws
+use Rattle.walk.proofs.WalkLaws.{reads-bad, reads-wrong, reads-second, looks, step, fits-low, fits-high, no-fit, in-fit, fit-fails}
 use Rattle.walk.proofs.AreaLaws.{skip, clear-yields, found, Breaks, at-once, behind, Yields, clear, holds, breaks, yields}
 
 -- ---- what is found
@@ -108,28 +107,16 @@ begun : (left : List ℕ) → (kindIn left ≡ 0 → ⊥) → 1 ≤ length left
 begun [] n = absurd (n refl)
 begun (b ∷ rest) n = omega arith
 
-bad : (place : Place) (offset : ℕ) (left : List ℕ) → (kindIn left ≡ 0 → ⊥) → (kindIn left ≡ 1 → ⊥) → lengthFits left ≡ false → look place offset left ≡ fault 3
-unfolding look
-bad place offset left a b f = simp (ne-eqb _ _ a, ne-eqb _ _ b, f)
-
-wrong : (place : Place) (offset : ℕ) (left : List ℕ) → kindIn left ≡ requestKind → lengthFits left ≡ true → (lengthIn left ≡ optionLength → ⊥) → look place offset left ≡ fault 5
-unfolding look
-wrong place offset left k f n = simp (k, f, laws.other-length place offset (lengthIn left) n)
-
-again : (o offset : ℕ) (left : List ℕ) → kindIn left ≡ requestKind → lengthFits left ≡ true → look (At o) offset left ≡ fault 5
-unfolding look
-again o offset left k f = simp (k, f)
-
 fault-complete : (area : List ℕ) (n : ℕ) → Faulty n area → walk area ≡ refuse n
 fault-complete _ _ (bad-length before left p a b l) =
     let w = through before left p in
-    w .2 ∙ stopped (w .0) (w .1) 3 left (begun left a) (bad (w .0) (w .1) left a b (no-fit left l))
+    w .2 ∙ stopped (w .0) (w .1) 3 left (begun left a) (reads-bad (w .0) (w .1) left a b (no-fit left l))
 fault-complete _ _ (other-length before left p k l h n) =
     let w = through before left p in
-    w .2 ∙ stopped (w .0) (w .1) 5 left (omega arith) (wrong (w .0) (w .1) left k (in-fit left l h) n)
+    w .2 ∙ stopped (w .0) (w .1) 5 left (omega arith) (reads-wrong (w .0) (w .1) left k (in-fit left l h) n)
 fault-complete _ _ (second before six between left s e t k l h) =
     let w = through-one before six between left s e t in
-    w .2 ∙ stopped (At (w .0)) (w .1) 5 left (omega arith) (again (w .0) (w .1) left k (in-fit left l h))
+    w .2 ∙ stopped (At (w .0)) (w .1) 5 left (omega arith) (reads-second (At (w .0)) (w .1) left (w .0) refl k (in-fit left l h))
 
 -- what a fault says of the bytes that it was met in
 abbrev Bad : ℕ → List ℕ → Type 0

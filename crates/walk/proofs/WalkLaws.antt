@@ -3,12 +3,12 @@ use Prim.Native.Nat.{ℕ, zero, suc, _+_, _-_, _≤_, _<_}
 use mathlib.Core.Bool.{Bool, true, false, _&&_}
 use mathlib.Core.List.{List, [], _∷_, _++_}
 use mathlib.Core.Logic.{_⊎_, inl, inr}
-use mathlib.Core.Path.{_≡_, refl, sym, ap, ap₂, _∙_}
+use mathlib.Core.Path.{_≡_, refl, sym, ap, ap₂, subst, _∙_}
 use native.Mathlib.Nat.{add-zero}
 use native.Mathlib.Omega.{arith}
-use borrow.Author.Tests.{le-leb, lt-leb, leb-true, ne-eqb}
+use borrow.Author.Tests.{eq-eqb, ne-eqb, eqb-true, eqb-false}
 use lib.Dec.{leb, eqb}
-use lib.ListN.{length, getD, drop, length-drop, drop-of-length-le}
+use lib.ListN.{length, getD, drop, length-drop, drop-of-length-le, List·getD-eq-default}
 use lib.Seq.{getD-drop, drop-cons, drop-drop}
 use Rattle.common.specs.Choice.{pick, within}
 use Rattle.common.proofs.Choice.{by-test, by-eqb, le-or-gt, within-low, within-high, in-within}
@@ -19,25 +19,45 @@ use Rattle.walk.specs.declared.Place.{Place}
 use Rattle.walk.specs.declared.Place.the-variants.{Nowhere, At}
 use Rattle.walk.specs.Walks.{Next, end, fault, past, endKind, noOperation, lengthFits, quickStart, look, goOn, walkOn, walk}
 
--- with less than two bytes left no length fits
-pub no-room : (option : List ℕ) → length option < 2 → lengthFits option ≡ false
+-- with less than two bytes left no length fits: the length byte is missing, and reads as 0
+pub no-room : (left : List ℕ) → length left < 2 → lengthFits left ≡ false
 unfolding lengthFits within
-no-room option h = go (leb 2 (lengthIn option)) refl
-  where
-    go : (t : Bool) → leb 2 (lengthIn option) ≡ t → t && leb (lengthIn option) (length option) ≡ false
-    go true e = let l = leb-true 2 (lengthIn option) e in lt-leb (lengthIn option) (length option) (omega arith)
-    go false e = refl
+no-room left h = rw (List·getD-eq-default left 0 {n = 1} (omega arith)) refl
+
+-- ---- what the walk makes of an option, by its type and its length
+
+module _ (place : Place) (offset : ℕ) (left : List ℕ) where
+  pub reads-end : kindIn left ≡ endKind → look place offset left ≡ end
+  unfolding look
+  reads-end k = simp (eq-eqb _ _ k)
+
+  pub reads-filler : kindIn left ≡ noOperation → look place offset left ≡ past place 1
+  unfolding look
+  reads-filler k = simp k
+
+  pub reads-bad : (kindIn left ≡ endKind → ⊥) → (kindIn left ≡ noOperation → ⊥) → lengthFits left ≡ false → look place offset left ≡ fault 3
+  unfolding look
+  reads-bad a b f = simp (ne-eqb _ _ a, ne-eqb _ _ b, f)
+
+  pub reads-other : (kindIn left ≡ endKind → ⊥) → (kindIn left ≡ noOperation → ⊥) → (kindIn left ≡ requestKind → ⊥) → lengthFits left ≡ true
+      → look place offset left ≡ past place (lengthIn left)
+  unfolding look
+  reads-other a b c f = simp (ne-eqb _ _ a, ne-eqb _ _ b, ne-eqb _ _ c, f)
+
+  pub reads-first : place ≡ Nowhere → kindIn left ≡ requestKind → lengthFits left ≡ true → lengthIn left ≡ optionLength → look place offset left ≡ past (At offset) (lengthIn left)
+  unfolding look
+  reads-first p k f l = simp (p, k, f, l)
+
+  pub reads-second : (i : ℕ) → place ≡ At i → kindIn left ≡ requestKind → lengthFits left ≡ true → look place offset left ≡ fault 5
+  unfolding look
+  reads-second i p k f = simp (p, k, f)
 
 -- a type 25 of another length, whatever was found before it
-pub other-length : (place : Place) (offset len : ℕ) → (len ≡ optionLength → ⊥) → quickStart place offset len ≡ fault 5
-other-length Nowhere offset len h = simp (ne-eqb len optionLength h)
-other-length (At o) offset len h = refl
-
--- a first type 25 of length 8
-pub first : (place : Place) (offset : ℕ) (option : List ℕ) → place ≡ Nowhere → kindIn option ≡ requestKind → lengthIn option ≡ optionLength → lengthIn option ≤ length option
-    → past (At offset) (lengthIn option) ≡ look place offset option
-unfolding look lengthFits within
-first place offset option p k l r = simp (p, k, l, le-leb optionLength (length option) (omega arith))
+pub reads-wrong : (place : Place) (offset : ℕ) (left : List ℕ) → kindIn left ≡ requestKind → lengthFits left ≡ true → (lengthIn left ≡ optionLength → ⊥)
+    → look place offset left ≡ fault 5
+unfolding look
+reads-wrong Nowhere offset left k f n = simp (k, f, ne-eqb (lengthIn left) optionLength n)
+reads-wrong (At i) offset left k f n = simp (k, f)
 
 -- what is proved of every way that an option can be read holds of its reading
 pub looks : (P : Next → Type 0) (place : Place) (offset : ℕ) (left : List ℕ)
@@ -48,20 +68,33 @@ pub looks : (P : Next → Type 0) (place : Place) (offset : ℕ) (left : List �
     → (place ≡ Nowhere → kindIn left ≡ requestKind → lengthIn left ≡ optionLength → lengthFits left ≡ true → P (past (At offset) (lengthIn left)))
     → ((kindIn left ≡ endKind → ⊥) → (kindIn left ≡ noOperation → ⊥) → (kindIn left ≡ requestKind → ⊥) → lengthFits left ≡ true → P (past place (lengthIn left)))
     → P (look place offset left)
-unfolding look
-looks P place offset left e n f q s o =
-    by-eqb P (kindIn left) endKind e
-    (λ no-end. by-eqb P (kindIn left) noOperation n
-    (λ no-filler. by-test P (lengthFits left)
-    (λ fits. by-eqb P (kindIn left) requestKind (λ k. request place (q k fits) (λ p l. s p k l fits)) (λ no-request. o no-end no-filler no-request fits))
-    (f no-end no-filler)))
+looks P place offset left e n f q s o = by-kind (eqb kind endKind) (eqb kind noOperation) (eqb kind requestKind) refl refl refl
   where
-    request : (before : Place)
-        → ((lengthIn left ≡ optionLength → ⊥) ⊎ ((i : ℕ) × (before ≡ At i)) → P (fault 5))
-        → (before ≡ Nowhere → lengthIn left ≡ optionLength → P (past (At offset) (lengthIn left)))
-        → P (quickStart before offset (lengthIn left))
-    request Nowhere g h = by-eqb P (lengthIn left) optionLength (h refl) (λ l. g (inl l))
-    request (At b) g h = g (inr (b, refl))
+    kind : ℕ
+    kind = kindIn left
+
+    reads : (x : Next) → look place offset left ≡ x → P x → P (look place offset left)
+    reads x l p = subst P (sym l) p
+
+    by-place : (before : Place) → place ≡ before → kindIn left ≡ requestKind → lengthFits left ≡ true → (t : Bool) → eqb (lengthIn left) optionLength ≡ t → P (look place offset left)
+    by-place (At i) p k fits t x = reads (fault 5) (reads-second place offset left i p k fits) (q k fits (inr (i, p)))
+    by-place Nowhere p k fits true x =
+        let l = eqb-true (lengthIn left) optionLength x in
+        reads (past (At offset) (lengthIn left)) (reads-first place offset left p k fits l) (s p k l fits)
+    by-place Nowhere p k fits false x =
+        let l = eqb-false (lengthIn left) optionLength x in
+        reads (fault 5) (reads-wrong place offset left k fits l) (q k fits (inl l))
+
+    by-length : (kindIn left ≡ endKind → ⊥) → (kindIn left ≡ noOperation → ⊥) → (t fits : Bool) → eqb (kindIn left) requestKind ≡ t → lengthFits left ≡ fits → P (look place offset left)
+    by-length a b t false y x = reads (fault 3) (reads-bad place offset left a b x) (f a b x)
+    by-length a b true true y x = by-place place refl (eqb-true (kindIn left) requestKind y) x (eqb (lengthIn left) optionLength) refl
+    by-length a b false true y x = let c = eqb-false (kindIn left) requestKind y in reads (past place (lengthIn left)) (reads-other place offset left a b c x) (o a b c x)
+
+    by-kind : (t u v : Bool) → eqb (kindIn left) endKind ≡ t → eqb (kindIn left) noOperation ≡ u → eqb (kindIn left) requestKind ≡ v → P (look place offset left)
+    by-kind true u v x y z = let k = eqb-true (kindIn left) endKind x in reads end (reads-end place offset left k) (e k)
+    by-kind false true v x y z = let k = eqb-true (kindIn left) noOperation y in reads (past place 1) (reads-filler place offset left k) (n k)
+    by-kind false false v x y z =
+        by-length (eqb-false (kindIn left) endKind x) (eqb-false (kindIn left) noOperation y) v (lengthFits left) z refl
 
 pub same-past : {p q : Place} {m n : ℕ} → past p m ≡ past q n → (p ≡ q) × (m ≡ n)
 same-past e = ((cc), (cc))

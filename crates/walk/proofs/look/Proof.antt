@@ -1,9 +1,11 @@
 -- `walk::look` meets its contract: each return says how the tests fell. Assumes nothing.
+use mathlib.Core.Bool.{true}
+use mathlib.Core.Path.{_≡_, sym}
 use native.Mathlib.Omega.{arith}
 use Rattle.common.specs.Choice.{within}
 use Rattle.common.proofs.Choice.{tests}
 use Rattle.walk.specs.Walks.{look, lengthFits}
-use Rattle.walk.proofs.WalkLaws.{no-room, other-length, first}
+use Rattle.walk.proofs.WalkLaws.{no-room, reads-first, reads-wrong, in-fit}
 use borrow.Author.Needs.{needs}
 use Rattle.walk.proofs.look.Statement.{statement}
 use Rattle.walk.proofs.look.Tie as tie
@@ -41,9 +43,12 @@ returns-6 : tie.Need-returns-6
 unfolding look lengthFits within
 returns-6 c = search tests
 
+-- what is known once the length fits
+fits : (c : tie.Else5) → lengthFits (c .before .before .before .before .before .before .before .args .option .now) ≡ true
+fits c = in-fit (c .before .before .before .before .before .before .before .args .option .now) (c .before .if4 .left) (c .if5 .left)
+
 returns-7 : tie.Need-returns-7
-unfolding look lengthFits within
-returns-7 c = search (tests, other-length)
+returns-7 c = let a = c .before .before .before .before .before .before .before .before .before .args in sym (reads-wrong (a .place) (a .at) (a .option .now) (c .before .if6 .left) (fits (c .before .before)) (c .if7 .taken))
 
 enum-told : tie.Need-enum-told
 enum-told c = search needs
@@ -52,7 +57,9 @@ enum-told-2 : tie.Need-enum-told-2
 enum-told-2 c = search needs
 
 returns-8 : tie.Need-returns-8
-returns-8 c = let a = c .before .before .before .before .before .before .before .before .before .before .before .args in first (a .place) (a .at) (a .option .now) (c .enum-told .given .1) (c .before .before .before .if6 .left) (c .before .before .if7 .left) (c .before .before .before .before .if5 .left)
+returns-8 c =
+    let a = c .before .before .before .before .before .before .before .before .before .before .before .args in
+    sym (reads-first (a .place) (a .at) (a .option .now) (c .enum-told .given .1) (c .before .before .before .if6 .left) (fits (c .before .before .before .before)) (c .before .before .if7 .left))
 
 returns-9 : tie.Need-returns-9
 unfolding look lengthFits within
