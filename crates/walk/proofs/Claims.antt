@@ -16,7 +16,7 @@ use Rattle.options.specs.Requests.{requestKind}
 use Rattle.walk.specs.declared.Place.{Place}
 use Rattle.walk.specs.declared.Place.the-variants.{Nowhere, At}
 use Rattle.walk.specs.Walks.{Next, fault, endKind, noOperation, lengthFits, look, goOn, walkOn, walk}
-use Rattle.walk.specs.Claims.{Skipped, Clear, quickStartOption, Holds, Passed, no-option, one-option, Faulty, bad-length, other-length, second, Walking}
+use Rattle.walk.specs.Claims.{Skipped, none, filler, last, Clear, quickStartOption, Holds, Passed, no-option, one-option, Faulty, bad-length, other-length, second, Walking, noneAlways, firstOnly, ShutOut}
 use Rattle.walk.proofs.WalkLaws.{reads-bad, reads-wrong, reads-second, looks, step, fits-low, fits-high, no-fit, in-fit, fit-fails}
 use Rattle.walk.proofs.AreaLaws.{skip, clear-yields, found, Breaks, at-once, behind, Yields, clear, holds, breaks, yields}
 
@@ -161,7 +161,7 @@ fault-sound area n (breaks m e (behind before six between left p o x s f t w l))
     subst (λ (k : ℕ). Faulty k area) same
     (subst (λ (y : List ℕ). Faulty m y) (sym w) (faulty-behind m p before six between left s f t (says (At p) o m left l)))
 
-pub walking : Walking
+pub walking : Walking walk
 walking = record {
   sound = sound;
   complete = complete;
@@ -182,4 +182,36 @@ walking = record {
         skips = h .skips;
         clear = h .clear;
       });
+}
+
+-- ---- walks that are shut out
+
+-- no-operations, and a Quick-Start option of zeros behind them
+six-zeros : List ℕ
+six-zeros = 0 ∷ 0 ∷ 0 ∷ 0 ∷ 0 ∷ 0 ∷ []
+
+behind-fillers : (before : List ℕ) → Skipped before → Holds (length before) (before ++ (quickStartOption six-zeros ++ []))
+unfolding six-zeros
+behind-fillers before s = record {
+  before = before;
+  six = six-zeros;
+  rest = [];
+  whole = refl;
+  place = refl;
+  full = refl;
+  skips = s;
+  clear = record { skipped = []; rest = []; whole = refl; skips = none; ends = last };
+}
+
+pub shutOut : ShutOut
+unfolding six-zeros look
+shutOut = record {
+  none-always = λ w.
+      let e : answer Nowhere ≡ answer (At 0) = w .complete _ 0 (behind-fillers [] none) in
+      let z : _≡_ {A = ℕ} 0 1 = cc in
+      omega arith;
+  first-only = λ w.
+      let e : answer Nowhere ≡ answer (At 1) = w .complete _ 1 (behind-fillers (1 ∷ []) (filler [] none)) in
+      let z : _≡_ {A = ℕ} 0 1 = cc in
+      omega arith;
 }

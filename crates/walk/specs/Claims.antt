@@ -6,10 +6,11 @@ use mathlib.Core.Logic.{_⊎_}
 use mathlib.Core.Path.{_≡_}
 use lib.ListN.{length, getD}
 use lib.Seq.{sets}
-use Rattle.refusals.specs.Reply.{answer, refuse}
+use Rattle.refusals.specs.Reply.{Reply, answer, refuse}
 use Rattle.options.specs.Wire.{kindIn, lengthIn}
+use Rattle.walk.specs.declared.Place.{Place}
 use Rattle.walk.specs.declared.Place.the-variants.{Nowhere, At}
-use Rattle.walk.specs.Walks.{walk}
+use Rattle.walk.specs.Walks.{look, goOn}
 
 -- ---- what areas are made of
 
@@ -70,10 +71,10 @@ pub data Faulty : ℕ → List ℕ → Type 0 where
   second : (before six between left : List ℕ) → Skipped before → length six ≡ 6 → Skipped between → kindIn left ≡ 25 → 2 ≤ lengthIn left → lengthIn left ≤ length left
       → Faulty 5 (before ++ (quickStartOption six ++ (between ++ left)))
 
--- ---- the claims
+-- ---- the claims, of `walk` (Walks.antt) and of any other that would stand in for it
 
--- whatever the walk yields, the area is made so (sound), and whatever an area is made of, the walk yields it (complete)
-pub record Walking : Type 0 where
+-- whatever a walk yields, the area is made so (sound), and whatever an area is made of, the walk yields it (complete)
+pub record Walking (walk : List ℕ → Reply Place) : Type 0 where
   pub sound : (area : List ℕ) (offset : ℕ) → walk area ≡ answer (At offset) → Holds offset area
   pub complete : (area : List ℕ) (offset : ℕ) → Holds offset area → walk area ≡ answer (At offset)
   pub none-sound : (area : List ℕ) → walk area ≡ answer Nowhere → Clear area
@@ -85,3 +86,14 @@ pub record Walking : Type 0 where
       → (offset + 8 ≤ length area) × (getD area offset 0 ≡ 25) × (getD area (suc offset) 0 ≡ 8)
   -- place and faultlessness stay when the six bytes after the length are overwritten
   pub steady : (area six : List ℕ) (offset : ℕ) → length six ≡ 6 → walk area ≡ answer (At offset) → walk (sets area (offset + 2) six) ≡ answer (At offset)
+
+-- two walks that fall short of them: one that answers none always, and one that looks at offset 0 only
+abbrev pub noneAlways : List ℕ → Reply Place
+noneAlways area = answer Nowhere
+
+abbrev pub firstOnly : List ℕ → Reply Place
+firstOnly area = goOn Nowhere (look Nowhere 0 area) (λ found len. answer found)
+
+pub record ShutOut : Type 0 where
+  pub none-always : Walking noneAlways → ⊥
+  pub first-only : Walking firstOnly → ⊥
