@@ -1,15 +1,15 @@
 -- Laws of the checksum: one's complement addition as a remainder, the sum of a header's words, and what a written checksum does to it. Assumes nothing.
 use Prim.Native.Nat.{ℕ, zero, suc, _+_, _-_, _*_, _/_, _%_, _≤_, _<_}
 use mathlib.Core.List.{List, [], _∷_, _++_, append-assoc}
-use mathlib.Core.Path.{_≡_, refl, sym, ap, ap₂, _∙_}
+use mathlib.Core.Path.{_≡_, refl, sym, ap, _∙_}
 use mathlib.Core.Logic.{_⊎_, inl, inr}
 use native.Mathlib.Omega.{arith}
-use lib.ListN.{length, getD, set, take, drop, length-set, length-take, length-drop, drop-of-length-le}
-use lib.Seq.{set-set, set-comm, getD-drop, drop-cons, sets, sets-eq, length-take-le, take-set-lt, getD-take}
+use lib.ListN.{length, getD, set, take, drop, length-set, drop-of-length-le}
+use lib.Seq.{set-set, set-comm, getD-drop, drop-cons, sets-eq, length-take-le, take-set-lt}
 use Rattle.common.specs.Lists.{Bytes}
 use Rattle.common.proofs.Choice.{le-or-gt}
 use Rattle.common.proofs.Lists.{bytes-set}
-use Rattle.ipv4.specs.Headers.{wordAt, checksumPlace, checksumIn, headerLength, headerOf}
+use Rattle.ipv4.specs.Headers.{wordAt, checksumPlace, headerLength, headerOf}
 use Rattle.ipv4.specs.Checksums.{allOnes, onesAdd, onesSum, withChecksum, checksumOf, sealed}
 use Rattle.ipv4.specs.Claims.{wordTotal}
 
@@ -158,3 +158,7 @@ in-steps packet h =
 pub length-sealed : (packet : List ℕ) → length (sealed packet) ≡ length packet
 unfolding sealed
 length-sealed packet = length-field (checksumOf (headerOf packet)) packet
+
+-- after a byte was stored
+pub stored-long : (packet : List ℕ) (i a : ℕ) → length (sealed (set packet i a)) ≡ length packet
+stored-long packet i a = length-sealed (set packet i a) ∙ length-set packet i a

@@ -1,12 +1,12 @@
 -- Laws of a well-formed header: what it says of the lengths, and which bytes it depends on. Assumes nothing.
-use Prim.Native.Nat.{ℕ, _+_, _*_, _/_, _%_, _≤_, _<_}
+use Prim.Native.Nat.{ℕ, _*_, _%_, _≤_, _<_}
 use mathlib.Core.Bool.{Bool, true, false, _&&_}
 use mathlib.Core.List.{List}
-use mathlib.Core.Path.{_≡_, refl, sym, ap, ap₂, _∙_}
+use mathlib.Core.Path.{_≡_, refl, sym, ap, _∙_}
 use native.Mathlib.Omega.{arith}
 use borrow.Author.Tests.{le-leb, lt-leb, eq-eqb, leb-true, leb-false, eqb-true}
 use lib.Dec.{leb, eqb}
-use lib.ListN.{length, getD, set}
+use lib.ListN.{length, set, length-set}
 use lib.Seq.{getD-set-other}
 use Rattle.common.specs.Choice.{within}
 use Rattle.common.proofs.Choice.{both-true, within-low, within-high, in-within}
@@ -111,3 +111,10 @@ checked-when reach packet w s = simp (w, eq-eqb (onesSum (headerOf packet)) allO
 pub length-kept : (packet : List ℕ) (i a : ℕ) → 1 ≤ i → headerLength (set packet i a) ≡ headerLength packet
 unfolding headerLength
 length-kept packet i a h = ap (λ (k : ℕ). k % 16 * 4) (getD-set-other packet i 0 a 0 (λ e. absurd (omega arith)))
+
+-- so a packet that was well formed can be sealed after it
+pub sealable : (reach : ℕ) (packet : List ℕ) (i a : ℕ) → 1 ≤ i → Form reach packet
+    → (12 ≤ headerLength (set packet i a)) × (headerLength (set packet i a) ≤ length (set packet i a))
+sealable reach packet i a h f =
+    let k = length-kept packet i a h in
+    (rw k (omega (arith, least reach packet f)), rw (k, length-set packet i a) (f .inside))

@@ -2,5 +2,9 @@ pub mod ChecksumLaws
 pub mod HeaderLaws
 pub mod PacketLaws
 pub mod SealLaws
-pub mod ViewLaws
+pub mod OptionLaws
+pub mod StoreLaws
+pub mod ReadLaws
+pub mod PutLaws
+pub mod MarkLaws
 pub mod Claims

@@ -1,8 +1,7 @@
 -- Laws of what is done with a packet: its marking and its option's place, by what the header's check answered. Assumes nothing.
 use Prim.Native.Nat.{ℕ, _+_, _-_, _/_, _%_, _≤_}
-use mathlib.Core.Bool.{true, false}
 use mathlib.Core.List.{List}
-use mathlib.Core.Path.{_≡_, refl, sym, ap, _∙_}
+use mathlib.Core.Path.{_≡_, sym, ap, _∙_}
 use native.Mathlib.Omega.{arith}
 use borrow.Author.Tests.{eq-eqb, ne-eqb}
 use lib.ListN.{length, getD, set, take, drop, length-take}
@@ -13,7 +12,7 @@ use Rattle.walk.specs.declared.Place.{Place}
 use Rattle.walk.specs.declared.Place.the-variants.{At}
 use Rattle.walk.specs.Walks.{walk}
 use Rattle.walk.proofs.Claims.{walking}
-use Rattle.ipv4.specs.Headers.{leastHeader, optionsPlace, ecnPlace, headerLength, headerOf, optionsOf}
+use Rattle.ipv4.specs.Headers.{optionsPlace, ecnPlace, headerLength}
 use Rattle.ipv4.specs.Checksums.{sealed}
 use Rattle.ipv4.specs.Checks.{headerChecked}
 use Rattle.ipv4.specs.Packets.{inPacket, walked, located, passedOn, forwarded}

@@ -6,7 +6,7 @@ use mathlib.Core.Logic.{_⊎_, inl, inr}
 use mathlib.Core.Path.{_≡_, refl, sym, ap, ap₂, subst, _∙_}
 use native.Mathlib.Nat.{le-refl}
 use native.Mathlib.Omega.{arith}
-use lib.ListN.{length, getD, set, take, drop, length-set}
+use lib.ListN.{length, getD, set, take, drop}
 use lib.Seq.{take-take, length-take-le, getD-take, getD-set-other, take-set-lt, drop-set-lt}
 use Rattle.common.specs.Lists.{Bytes}
 use Rattle.common.proofs.Lists.{set-own, bytes-part}
@@ -17,7 +17,7 @@ use Rattle.ipv4.specs.Checksums.{allOnes, onesSum, withChecksum, checksu
 use Rattle.ipv4.specs.Checks.{wellFormed, headerChecked}
 use Rattle.ipv4.specs.Packets.{inPacket, walked, located}
 use Rattle.ipv4.specs.Claims.{OutsideChecksum, ValidChecksum, wordTotal}
-use Rattle.ipv4.proofs.ChecksumLaws.{folded, checksum-is, fills, fills-only, fills-all, sum-field, sealed-sum, field-twice, take-field, length-field, bytes-field, length-sealed}
+use Rattle.ipv4.proofs.ChecksumLaws.{folded, checksum-is, fills, fills-only, fills-all, sum-field, sealed-sum, field-twice, take-field, bytes-field, length-sealed}
 use Rattle.ipv4.proofs.HeaderLaws.{Form, form, formed, least, length-kept, checked-when}
 
 -- ---- packets that agree in what a well-formed header depends on

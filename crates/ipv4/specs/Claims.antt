@@ -17,7 +17,7 @@ use Rattle.walk.specs.declared.Place.{Place}
 use Rattle.walk.specs.declared.Place.the-variants.{Nowhere, At}
 use Rattle.walk.specs.Claims.{Holds, Clear}
 use Rattle.ipv4.specs.Headers.{wordAt, headerLength, totalLength, checksumIn, headerOf, optionsOf}
-use Rattle.ipv4.specs.Checksums.{allOnes, onesSum, checksumOf, sealed}
+use Rattle.ipv4.specs.Checksums.{onesSum, checksumOf, sealed}
 use Rattle.ipv4.specs.Checks.{wellFormed, headerChecked}
 use Rattle.ipv4.specs.Packets.{walked, located, passedOn, forwarded}
 use Rattle.ipv4.specs.Marks.{marked, dropped, markReply, markedPacket}

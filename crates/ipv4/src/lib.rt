@@ -150,7 +150,10 @@ pub fn locate(packet: &[u8]) -> Finding
             Finding::Refused(why) => Finding::Refused(why),
             Finding::Found(place) => match place {
                 Place::Nowhere => Finding::Found(Place::Nowhere),
-                Place::At(offset) => Finding::Found(Place::At(OPTIONS + offset)),
+                Place::At(offset) => {
+                    let at = OPTIONS + offset;
+                    Finding::Found(Place::At(at))
+                }
             },
         },
     }

@@ -1,21 +1,19 @@
 -- Laws of areas by what they are made of: the walk passes over what is skipped, and whatever it yields, the area is made so. Assumes nothing.
-use Prim.Native.Nat.{ℕ, zero, suc, _+_, _-_, _≤_, _<_}
-use mathlib.Core.Bool.{true, false}
+use Prim.Native.Nat.{ℕ, zero, suc, _+_, _-_, _≤_}
+use mathlib.Core.Bool.{true}
 use mathlib.Core.List.{List, [], _∷_, _++_, append-assoc}
 use mathlib.Core.Path.{_≡_, refl, sym, ap, ap₂, subst, _∙_}
 use native.Mathlib.Nat.{add-zero}
 use native.Mathlib.Omega.{arith}
-use borrow.Author.Tests.{ne-eqb, eq-eqb}
-use lib.ListN.{length, getD, take, drop, length-append, length-take, length-drop, take-append-drop, List·getD-append}
+use lib.ListN.{length, take, drop, length-append, length-drop, take-append-drop, List·getD-append}
 use lib.Seq.{take-suc, drop-at, drop-drop, length-take-le, getD-take, drop-cons}
-use Rattle.common.specs.Choice.{within}
 use Rattle.common.proofs.Choice.{in-within}
 use Rattle.refusals.specs.Reply.{Reply, answer, refuse}
 use Rattle.options.specs.Wire.{optionLength, kindIn, lengthIn}
 use Rattle.options.specs.Requests.{requestKind}
 use Rattle.walk.specs.declared.Place.{Place}
 use Rattle.walk.specs.declared.Place.the-variants.{Nowhere, At}
-use Rattle.walk.specs.Walks.{Next, end, fault, past, endKind, noOperation, lengthFits, look, goOn, walkOn, walk}
+use Rattle.walk.specs.Walks.{Next, end, fault, past, endKind, noOperation, lengthFits, look, goOn, walkOn}
 use Rattle.walk.specs.Claims.{Other, Skipped, none, filler, other, Ended, last, Clear, quickStartOption, Holds}
 use Rattle.walk.specs.Claims as claims
 use Rattle.walk.proofs.WalkLaws.{reads-first, reads-other, looks, fits-low, fits-high, step, goes-past}

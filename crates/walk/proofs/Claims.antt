@@ -1,12 +1,10 @@
 -- The claims of specs/Claims.antt: the walk over what an area is made of, and back. Assumes nothing.
 use Prim.Native.Nat.{ℕ, suc, _+_, _-_, _≤_, _<_}
-use mathlib.Core.Bool.{true, false}
 use mathlib.Core.List.{List, [], _∷_, _++_, append-assoc}
 use mathlib.Core.Logic.{_⊎_, inl, inr}
 use mathlib.Core.Path.{_≡_, refl, sym, ap, subst, _∙_}
 use native.Mathlib.Nat.{add-zero, zero-add, le-refl}
 use native.Mathlib.Omega.{arith}
-use borrow.Author.Tests.{ne-eqb}
 use lib.ListN.{length, getD, drop, length-append}
 use lib.Seq.{getD-append-add, sets}
 use Rattle.common.proofs.Lists.{sets-between}
@@ -15,10 +13,10 @@ use Rattle.options.specs.Wire.{optionLength, kindIn, lengthIn}
 use Rattle.options.specs.Requests.{requestKind}
 use Rattle.walk.specs.declared.Place.{Place}
 use Rattle.walk.specs.declared.Place.the-variants.{Nowhere, At}
-use Rattle.walk.specs.Walks.{Next, fault, endKind, noOperation, lengthFits, look, goOn, walkOn, walk}
-use Rattle.walk.specs.Claims.{Skipped, none, filler, last, Clear, quickStartOption, Holds, Passed, no-option, one-option, Faulty, bad-length, other-length, second, Walking, noneAlways, firstOnly, ShutOut}
+use Rattle.walk.specs.Walks.{Next, fault, look, goOn, walkOn, walk}
+use Rattle.walk.specs.Claims.{Skipped, none, filler, last, Clear, quickStartOption, Holds, Passed, no-option, one-option, Faulty, bad-length, other-length, second, Walking, ShutOut}
 use Rattle.walk.proofs.WalkLaws.{reads-bad, reads-wrong, reads-second, looks, step, fits-low, fits-high, no-fit, in-fit, fit-fails}
-use Rattle.walk.proofs.AreaLaws.{skip, clear-yields, found, Breaks, at-once, behind, Yields, clear, holds, breaks, yields}
+use Rattle.walk.proofs.AreaLaws.{skip, clear-yields, found, at-once, behind, Yields, clear, holds, breaks, yields}
 
 -- ---- what is found
 

@@ -1,23 +1,23 @@
 -- Laws of the walk: how an option reads in its area, how the walk goes past an option, and what it does with the bytes that it skips. Assumes nothing.
 use Prim.Native.Nat.{ℕ, zero, suc, _+_, _-_, _≤_, _<_}
-use mathlib.Core.Bool.{Bool, true, false, _&&_}
-use mathlib.Core.List.{List, [], _∷_, _++_}
+use mathlib.Core.Bool.{Bool, true, false}
+use mathlib.Core.List.{List, [], _∷_}
 use mathlib.Core.Logic.{_⊎_, inl, inr}
 use mathlib.Core.Path.{_≡_, refl, sym, ap, ap₂, subst, _∙_}
 use native.Mathlib.Nat.{add-zero}
 use native.Mathlib.Omega.{arith}
 use borrow.Author.Tests.{eq-eqb, ne-eqb, eqb-true, eqb-false}
-use lib.Dec.{leb, eqb}
-use lib.ListN.{length, getD, drop, length-drop, drop-of-length-le, List·getD-eq-default}
-use lib.Seq.{getD-drop, drop-cons, drop-drop}
-use Rattle.common.specs.Choice.{pick, within}
-use Rattle.common.proofs.Choice.{by-test, by-eqb, le-or-gt, within-low, within-high, in-within}
-use Rattle.refusals.specs.Reply.{Reply, answer, refuse}
+use lib.Dec.{eqb}
+use lib.ListN.{length, drop, length-drop, drop-of-length-le, List·getD-eq-default}
+use lib.Seq.{drop-drop}
+use Rattle.common.specs.Choice.{within}
+use Rattle.common.proofs.Choice.{le-or-gt, within-low, within-high, in-within}
+use Rattle.refusals.specs.Reply.{answer, refuse}
 use Rattle.options.specs.Wire.{optionLength, kindIn, lengthIn}
 use Rattle.options.specs.Requests.{requestKind}
 use Rattle.walk.specs.declared.Place.{Place}
 use Rattle.walk.specs.declared.Place.the-variants.{Nowhere, At}
-use Rattle.walk.specs.Walks.{Next, end, fault, past, endKind, noOperation, lengthFits, quickStart, look, goOn, walkOn, walk}
+use Rattle.walk.specs.Walks.{Next, end, fault, past, endKind, noOperation, lengthFits, look, goOn, walkOn, walk}
 
 -- with less than two bytes left no length fits: the length byte is missing, and reads as 0
 pub no-room : (left : List ℕ) → length left < 2 → lengthFits left ≡ false

@@ -1,6 +1,5 @@
 -- `ipv4::check_header` meets its contract: each return says how the tests fell. Assumes nothing.
 use Prim.Native.Nat.{ℕ}
-use mathlib.Core.Bool.{true}
 use mathlib.Core.Path.{_≡_, sym, ap, _∙_}
 use native.Mathlib.Omega.{arith}
 use borrow.Author.Tests.{eq-eqb, ne-eqb}
@@ -8,7 +7,6 @@ use lib.ListN.{length, take}
 use lib.Seq.{length-take-le}
 use Rattle.common.proofs.Choice.{held, failed}
 use Rattle.ipv4.specs.Checksums.{onesSum}
-use Rattle.ipv4.specs.Checks.{wellFormed}
 use Rattle.ipv4.proofs.HeaderLaws.{Form, form, whole-words}
 use borrow.Author.Needs.{needs}
 use Rattle.ipv4.proofs.check_header.Statement.{statement}

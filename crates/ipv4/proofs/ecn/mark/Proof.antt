@@ -1,17 +1,13 @@
 -- `ipv4::ecn::mark` meets its contract: either nothing is written, or CE is stored and the header sealed. Assumes nothing.
-use Prim.Native.Nat.{ℕ, _+_, _*_, _/_, _%_, _≤_}
-use mathlib.Core.Bool.{true, false}
-use mathlib.Core.List.{List}
 use mathlib.Core.Path.{_≡_, sym, ap, _∙_}
 use native.Mathlib.Omega.{arith}
-use borrow.Author.Tests.{eq-eqb, ne-eqb}
-use lib.ListN.{length, getD, set, length-set}
-use Rattle.refusals.specs.Reply.{answer, refuse}
-use Rattle.ipv4.specs.Marks.{ectSet, withCe, markReply, markedPacket, afterMark}
+use lib.ListN.{length}
+use Rattle.refusals.specs.Reply.{answer}
+use Rattle.ipv4.specs.Marks.{withCe}
 use Rattle.ipv4.specs.Replies.{checkedTold}
 use Rattle.ipv4.specs.Checks.{headerChecked}
-use Rattle.ipv4.proofs.ChecksumLaws.{length-sealed}
-use Rattle.ipv4.proofs.HeaderLaws.{Good, good, length-kept}
+use Rattle.ipv4.proofs.ChecksumLaws.{stored-long}
+use Rattle.ipv4.proofs.HeaderLaws.{Good, good, sealable}
 use Rattle.ipv4.proofs.PacketLaws.{mark-refused, mark-drop, mark-marked}
 use borrow.Author.Needs.{needs}
 use Rattle.ipv4.proofs.ecn.mark.Statement.{statement}
@@ -52,11 +48,7 @@ slice-write-packet : tie.Need-slice-write-packet
 slice-write-packet c = let g = known (c .before .before) in let f = g .form-is in search needs
 
 seal-requires : tie.Need-seal-requires
-seal-requires c κs =
-    let p = c .before .before .before .before .before .before .before .before .args .packet .now in
-    let g = known (c .before .before .before) in
-    let h = length-kept p 1 (getD p 1 0 / 2 * 2 + 1) (omega arith) in
-    (rw h (omega (arith, g .header)), rw (h, length-set p 1 (getD p 1 0 / 2 * 2 + 1)) (g .form-is .inside))
+seal-requires c κs = sealable _ (c .before .before .before .before .before .before .before .before .args .packet .now) 1 _ (omega arith) (known (c .before .before .before) .form-is)
 
 same-length-2 : tie.Need-same-length-2
 same-length-2 c = search needs
@@ -65,10 +57,7 @@ returns-2 : tie.Need-returns-2
 returns-2 c = mark-refused (c .before .before .before .before .before .before .args .packet .now) _ (sym (ap checkedTold (c .before .why .given .1)) ∙ c .before .before .before .check-header .ensures)
 
 same-length-3 : tie.Need-same-length-3
-same-length-3 c =
-    let p = c .before .before .before .before .before .before .before .before .before .before .before .args .packet .now in
-    let byte = getD p 1 0 / 2 * 2 + 1 in
-    ap length (c .before .before .seal .ensures) ∙ length-sealed (set p 1 byte) ∙ length-set p 1 byte
+same-length-3 c = ap length (c .before .before .seal .ensures) ∙ stored-long (c .before .before .before .before .before .before .before .before .before .before .before .args .packet .now) 1 _
 
 returns-3 : tie.Need-returns-3
 unfolding withCe

@@ -1,65 +1,31 @@
--- Laws of the view: where a located option lies, and what a packet is after other numbers were stored for its view. Assumes nothing.
-use Prim.Native.Nat.{ℕ, suc, _+_, _-_, _*_, _/_, _%_, _≤_, _<_}
+-- Laws of what is stored for a view: the packet with another IP TTL and another request. Assumes nothing.
+use Prim.Native.Nat.{ℕ, suc, _+_, _≤_, _<_}
 use mathlib.Core.Bool.{true, false}
-use mathlib.Core.List.{List, [], _∷_}
+use mathlib.Core.List.{List}
 use mathlib.Core.Logic.{_⊎_, inl, inr}
 use mathlib.Core.Option.{Option, none, some}
 use mathlib.Core.Path.{_≡_, refl, sym, ap, ap₂, subst, _∙_}
-use native.Mathlib.Nat.{le-refl}
 use native.Mathlib.Omega.{arith}
-use lib.ListN.{length, getD, set, take, drop, length-set, length-drop}
-use lib.Seq.{length-take-le, getD-take, getD-drop, getD-set-same, getD-set-other, drop-set-lt, sets, length-sets}
+use lib.ListN.{length, getD, set, take, drop, length-set}
+use lib.Seq.{getD-set-same, getD-set-other, drop-set-lt, sets, length-sets}
 use Rattle.common.specs.Lists.{Bytes}
 use Rattle.common.proofs.Lists.{set-own, sets-own, part-stored, getD-sets-other, take-sets, drop-sets, bytes-set, bytes-each, bytes-sets, bytes-part}
-use Rattle.refusals.specs.Reply.{Reply, answer, refuse, leaves, andThen}
-use Rattle.refusals.proofs.ReplyLaws.{same-answer, through}
-use Rattle.rates.specs.Steps.{topCode}
+use Rattle.refusals.specs.Reply.{Reply, answer, refuse, leaves}
 use Rattle.options.specs.declared.request.Request.{Request}
-use Rattle.options.specs.Wire.{optionLength, nonceLimit, optionBytes, rateIn, ttlIn, nonceIn, reservedIn}
+use Rattle.options.specs.Wire.{optionLength, optionBytes, reservedIn}
 use Rattle.options.specs.Requests.{requestKind, requestRead, requestRewritten}
 use Rattle.options.proofs.Claims.{requestRoundTrip, changed-option}
 use Rattle.walk.specs.declared.Place.{Place}
 use Rattle.walk.specs.declared.Place.the-variants.{Nowhere, At}
 use Rattle.walk.specs.Walks.{walk}
 use Rattle.walk.proofs.Claims.{walking}
-use Rattle.ipv4.specs.Headers.{leastHeader, optionsPlace, ttlPlace, ipTtl, headerLength, headerOf, optionsOf}
-use Rattle.ipv4.specs.Checks.{wellFormed, headerChecked}
-use Rattle.ipv4.specs.Packets.{inPacket, walked, located}
-use Rattle.ipv4.specs.Views.{View, optionAt, asRequest, requestAt, putRequest}
+use Rattle.ipv4.specs.Headers.{leastHeader, optionsPlace, ttlPlace, ipTtl, headerLength, optionsOf}
+use Rattle.ipv4.specs.Packets.{inPacket}
+use Rattle.ipv4.specs.Views.{optionAt, asRequest, requestAt, putRequest}
 use Rattle.ipv4.specs.Claims.{Inside, RequestFits, FitsWhere, asks, OutsideRequest}
-use Rattle.ipv4.proofs.HeaderLaws.{Form, length-kept, Good, good}
+use Rattle.ipv4.proofs.HeaderLaws.{length-kept, Good}
+use Rattle.ipv4.proofs.OptionLaws.{inside-at}
 use Rattle.ipv4.proofs.SealLaws.{same-form, options-set}
-
--- ---- a located option
-
-pub record Found (reach : ℕ) (packet : List ℕ) (place : Place) : Type 0 where
-  pub is-good : Good reach packet
-  pub inner : Place
-  pub by-walk : walk (optionsOf packet) ≡ answer inner
-  pub moved : place ≡ inPacket inner
-
-pub found : (reach : ℕ) (packet : List ℕ) (place : Place) → located reach packet ≡ answer place → Found reach packet place
-found reach packet place e =
-    let outer = through (headerChecked reach packet) (λ header. walked packet) place e in
-    let inside = through (walk (optionsOf packet)) (λ (p : Place). answer (inPacket p)) place (outer .2) in
-    record { is-good = good reach (outer .0) packet (sym (outer .1)) .0; inner = inside .0; by-walk = inside .1; moved = same-answer (sym (inside .2)) }
-
--- the offset in the area, as a place in the packet
-pub inside-at : (reach : ℕ) (packet : List ℕ) (o : ℕ) → Good reach packet → walk (optionsOf packet) ≡ answer (At o) → Inside (optionsPlace + o) packet
-inside-at reach packet o g e =
-    let h = headerLength packet in
-    let f = g .form-is in
-    let r = walking .room (optionsOf packet) o e in
-    let long : length (optionsOf packet) ≡ h - optionsPlace = length-drop optionsPlace (headerOf packet) ∙ ap (λ (n : ℕ). n - optionsPlace) (length-take-le h packet (f .inside)) in
-    let read : (i : ℕ) → optionsPlace + i < h → getD (optionsOf packet) i 0 ≡ getD packet (optionsPlace + i) 0 =
-    λ i l. getD-drop optionsPlace (headerOf packet) i 0 ∙ getD-take h packet (optionsPlace + i) 0 l in
-    record {
-      behind = omega arith;
-      room = omega (arith, r .0, g .header);
-      header = f .inside;
-      kind = sym (read o (omega (arith, r .0, g .header))) ∙ r .1;
-      len = ap (λ (k : ℕ). getD packet k 0) {x = suc (optionsPlace + o)} {y = optionsPlace + suc o} (omega arith) ∙ sym (read (suc o) (omega (arith, r .0, g .header))) ∙ r .2;
-    }
 
 -- bytes below 20 are no option's
 pub low-apart : (inner : Place) (request : Option Request) (i : ℕ) → i < leastHeader → OutsideRequest (inPacket inner) request i
