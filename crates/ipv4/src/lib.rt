@@ -1,8 +1,7 @@
 // The IPv4 header of a packet: its check and its checksum, the place of its Quick-Start option, and
 // passing it on. Bytes behind the header are neither read nor changed.
 ghost use mathlib.Core.Path.{_≡_};
-ghost use Prim.Native.Nat.{_+_, _*_, _%_, _<_, _≤_};
-ghost use mathlib.Core.Bool.{true};
+ghost use Prim.Native.Nat.{_+_, _%_, _<_, _≤_};
 ghost use lib.ListN.{length};
 ghost use Rattle.refusals.specs.Reply.{leaves, done};
 ghost use Rattle.walk.specs.Replies.{findingTold};

@@ -36,27 +36,27 @@ enum Step {
     Past { place: Place, length: usize },
 }
 
-// Looks at one option: `option` is what is left of the area from the option's type on, and `at` is its
+// Looks at one option: `left` is all that is left of the area, from the option's type on, and `at` is its
 // offset. A bad length is tested before anything that is special to Quick-Start.
-fn look(option: &[u8], at: usize, place: Place) -> Step
-    requires { ⌜ 0 < length (now option) ⌝ }
-    ensures { λ r. ⌜ stepTold r ≡ look place at (now (option .entry)) ⌝ }
+fn look(left: &[u8], at: usize, place: Place) -> Step
+    requires { ⌜ 0 < length (now left) ⌝ }
+    ensures { λ r. ⌜ stepTold r ≡ look place at (now (left .entry)) ⌝ }
 {
-    let kind = option[0];
+    let kind = left[0];
     if kind == END {
         return Step::End;
     }
     if kind == NO_OPERATION {
         return Step::Past { place, length: 1 };
     }
-    if option.len() < LEAST_LENGTH {
+    if left.len() < LEAST_LENGTH {
         return Step::Fault(Refusal::OptionLength);
     }
-    let length = option[1] as usize;
+    let length = left[1] as usize;
     if length < LEAST_LENGTH {
         return Step::Fault(Refusal::OptionLength);
     }
-    if length > option.len() {
+    if length > left.len() {
         return Step::Fault(Refusal::OptionLength);
     }
     if kind != REQUEST {

@@ -44,11 +44,11 @@ unfolding look lengthFits within
 returns-6 c = search tests
 
 -- what is known once the length fits
-fits : (c : tie.Else5) → lengthFits (c .before .before .before .before .before .before .before .args .option .now) ≡ true
-fits c = in-fit (c .before .before .before .before .before .before .before .args .option .now) (c .before .if4 .left) (c .if5 .left)
+fits : (c : tie.Else5) → lengthFits (c .before .before .before .before .before .before .before .args .left .now) ≡ true
+fits c = in-fit (c .before .before .before .before .before .before .before .args .left .now) (c .before .if4 .left) (c .if5 .left)
 
 returns-7 : tie.Need-returns-7
-returns-7 c = let a = c .before .before .before .before .before .before .before .before .before .args in sym (reads-wrong (a .place) (a .at) (a .option .now) (c .before .if6 .left) (fits (c .before .before)) (c .if7 .taken))
+returns-7 c = let a = c .before .before .before .before .before .before .before .before .before .args in sym (reads-wrong (a .place) (a .at) (a .left .now) (c .before .if6 .left) (fits (c .before .before)) (c .if7 .taken))
 
 enum-told : tie.Need-enum-told
 enum-told c = search needs
@@ -59,7 +59,7 @@ enum-told-2 c = search needs
 returns-8 : tie.Need-returns-8
 returns-8 c =
     let a = c .before .before .before .before .before .before .before .before .before .before .before .args in
-    sym (reads-first (a .place) (a .at) (a .option .now) (c .enum-told .given .1) (c .before .before .before .if6 .left) (fits (c .before .before .before .before)) (c .before .before .if7 .left))
+    sym (reads-first (a .place) (a .at) (a .left .now) (c .enum-told .given .1) (c .before .before .before .if6 .left) (fits (c .before .before .before .before)) (c .before .before .if7 .left))
 
 returns-9 : tie.Need-returns-9
 unfolding look lengthFits within
