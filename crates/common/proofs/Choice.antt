@@ -3,6 +3,7 @@ use Prim.Native.Nat.{ℕ, _≤_, _<_}
 use mathlib.Core.Bool.{Bool, true, false, not, _&&_}
 use mathlib.Core.Logic.{_⊎_, inl, inr}
 use mathlib.Core.Path.{_≡_, refl, sym, _∙_}
+use native.Mathlib.Omega.{arith}
 use lib.Dec.{leb, ltb, eqb}
 use borrow.Author.Tests.{lt-ltb, le-ltb, le-leb, lt-leb, eq-eqb, ne-eqb, leb-true, leb-false, ltb-true, ltb-false, eqb-true, eqb-false, not-true, not-false}
 use Rattle.common.specs.Choice.{pick, within}
@@ -31,6 +32,10 @@ held r t e n = sym e ∙ not-false r n
 
 pub failed : (r t : Bool) → r ≡ t → not r ≡ true → t ≡ false
 failed r t e n = sym e ∙ not-true r n
+
+-- two constructors are never equal: an equation of theirs makes 0 and 1 equal, which `cc` finds
+pub clash : _≡_ {A = ℕ} 0 1 → ⊥
+clash e = omega arith
 
 -- one number is at most another, or above it
 pub le-or-gt : (a b : ℕ) → (a ≤ b) ⊎ (b < a)

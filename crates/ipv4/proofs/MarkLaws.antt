@@ -11,7 +11,7 @@ use lib.ListN.{length, getD, set, take, length-set}
 use lib.Seq.{getD-set-same, getD-set-other, drop-set-lt}
 use Rattle.common.specs.Choice.{pick}
 use Rattle.common.specs.Lists.{Bytes}
-use Rattle.common.proofs.Choice.{by-test}
+use Rattle.common.proofs.Choice.{clash, by-test}
 use Rattle.common.proofs.Lists.{set-own, bytes-set}
 use Rattle.refusals.specs.Reply.{Reply, answer, refuse, andThen}
 use Rattle.options.specs.declared.request.Request.{Request}
@@ -161,8 +161,8 @@ ecnMarking = record {
       (λ h e t. bytes-sealed (flagged packet) (bytes-flagged packet b));
   bits = λ packet.
       by-mark packet (λ (r : Reply Mark) (l : List ℕ). r ≡ answer marked → (getD l ecnPlace 0 % 4 ≡ 3) × (getD l ecnPlace 0 / 4 ≡ byte packet / 4))
-      (λ m e x. let z : _≡_ {A = ℕ} 0 1 = cc in absurd (omega arith))
-      (λ h e t x. let z : _≡_ {A = ℕ} 0 1 = cc in absurd (omega arith))
+      (λ m e x. absurd (clash (cc)))
+      (λ h e t x. absurd (clash (cc)))
       (λ h e t x.
       let a = ecn-after packet h e in
       let k = ce-keeps (byte packet) (ect (byte packet) t) in

@@ -8,6 +8,7 @@ use native.Mathlib.Omega.{arith}
 use borrow.Author.Tests.{eq-eqb, ne-eqb}
 use lib.ListN.{length, getD, drop, length-drop}
 use lib.Seq.{getD-take, getD-drop, length-take-le}
+use Rattle.common.proofs.Choice.{clash}
 use Rattle.refusals.specs.Reply.{Reply, answer, refuse, andThen}
 use Rattle.refusals.proofs.ReplyLaws.{same-answer, through}
 use Rattle.options.specs.Wire.{optionLength, kindIn, lengthIn, highHalf, wordOf, rateIn, ttlIn, nonceIn}
@@ -55,7 +56,7 @@ inside-at reach packet o g e =
     }
 
 pub inside-of : (reach : ℕ) (packet : List ℕ) (place : ℕ) (inner : Place) → Good reach packet → walk (optionsOf packet) ≡ answer inner → At place ≡ inPacket inner → Inside place packet
-inside-of reach packet place Nowhere g w e = let z : _≡_ {A = ℕ} 0 1 = cc in absurd (omega arith)
+inside-of reach packet place Nowhere g w e = absurd (clash (cc))
 inside-of reach packet place (At o) g w e = let s : optionsPlace + o ≡ place = cc in subst (λ (k : ℕ). Inside k packet) s (inside-at reach packet o g w)
 
 -- a packet whose header passed its check is located by its walk

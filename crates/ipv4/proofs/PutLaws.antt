@@ -8,6 +8,7 @@ use mathlib.Core.Path.{_≡_, refl, sym, ap, ap₂, subst, _∙_}
 use native.Mathlib.Omega.{arith}
 use lib.ListN.{length, getD, set, take, length-set}
 use lib.Seq.{getD-set-same, getD-set-other, set-getD, drop-set-lt, sets}
+use Rattle.common.proofs.Choice.{clash}
 use Rattle.common.specs.Lists.{Bytes}
 use Rattle.common.proofs.Lists.{set-own, set-sets, bytes-set, bytes-part}
 use Rattle.refusals.specs.Reply.{Reply, answer, refuse, leaves, andThen}
@@ -47,7 +48,7 @@ request-sealed Nowhere packet = refl
 request-sealed (At o) packet = ap (λ (l : List ℕ). asRequest (requestRead l)) (option-sealed (optionsPlace + o) packet (omega arith))
 
 place-low : (inner : Place) (o : ℕ) → inPacket inner ≡ At o → leastHeader ≤ o
-place-low Nowhere o e = let z : _≡_ {A = ℕ} 0 1 = cc in absurd (omega arith)
+place-low Nowhere o e = absurd (clash (cc))
 place-low (At i) o e = let s : optionsPlace + i ≡ o = cc in omega arith
 
 -- put writes at the place that the walk finds

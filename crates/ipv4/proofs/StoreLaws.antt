@@ -8,6 +8,7 @@ use mathlib.Core.Path.{_≡_, refl, sym, ap, ap₂, subst, _∙_}
 use native.Mathlib.Omega.{arith}
 use lib.ListN.{length, getD, set, take, drop, length-set}
 use lib.Seq.{getD-set-same, getD-set-other, drop-set-lt, sets, length-sets}
+use Rattle.common.proofs.Choice.{clash}
 use Rattle.common.specs.Lists.{Bytes}
 use Rattle.common.proofs.Lists.{set-own, sets-own, part-stored, getD-sets-other, take-sets, drop-sets, bytes-set, bytes-each, bytes-sets, bytes-part}
 use Rattle.refusals.specs.Reply.{Reply, answer, refuse, leaves}
@@ -37,15 +38,15 @@ low-apart (At o) (some r) i h = inl (omega arith)
 
 asks-none : (x : Option Request) → asks x ≡ false → x ≡ none
 asks-none none a = refl
-asks-none (some r) a = let z : _≡_ {A = ℕ} 0 1 = cc in absurd (omega arith)
+asks-none (some r) a = absurd (clash (cc))
 
 asks-some : (x : Option Request) → asks x ≡ true → (old : Request) × (x ≡ some old)
-asks-some none a = let z : _≡_ {A = ℕ} 0 1 = cc in absurd (omega arith)
+asks-some none a = absurd (clash (cc))
 asks-some (some old) a = (old, refl)
 
 pub is-read : (reply : Reply Request) (r : Request) → asRequest reply ≡ some r → reply ≡ answer r
 is-read (answer a) r e = ap (λ (q : Request). answer q) (cc)
-is-read (refuse n) r e = let z : _≡_ {A = ℕ} 0 1 = cc in absurd (omega arith)
+is-read (refuse n) r e = absurd (clash (cc))
 
 -- the request that stands at a place, put there again, changes nothing
 pub own-request : (place : ℕ) (packet : List ℕ) (request : Option Request) → Bytes packet → place + optionLength ≤ length packet
@@ -92,7 +93,7 @@ module _ (reach : ℕ) (packet : List ℕ) (b : Bytes packet) (g : Good reach pa
   request-aged (At o) = ap (λ (l : List ℕ). asRequest (requestRead l)) (option-aged (optionsPlace + o) (omega arith))
 
   reserved-aged : (inner : Place) (o : ℕ) → inPacket inner ≡ At o → reservedIn (optionAt o aged) ≡ reservedIn (optionAt o packet)
-  reserved-aged Nowhere o e = let z : _≡_ {A = ℕ} 0 1 = cc in absurd (omega arith)
+  reserved-aged Nowhere o e = absurd (clash (cc))
   reserved-aged (At i) o e =
       let l : optionsPlace + i ≡ o = cc in
       ap reservedIn (option-aged o (omega arith))
@@ -206,7 +207,7 @@ module _ (reach : ℕ) (packet : List ℕ) (b : Bytes packet) (g : Good reach pa
   pub stored : (inner : Place) (request : Option Request) → walk (optionsOf packet) ≡ answer inner → FitsWhere request → asks (requestAt (inPacket inner) packet) ≡ asks request
       → Stored (inPacket inner) packet ttl request (putRequest (inPacket inner) request aged)
   stored Nowhere none e f a = aged-stored Nowhere none refl
-  stored Nowhere (some r) e f a = let z : _≡_ {A = ℕ} 0 1 = cc in absurd (omega arith)
+  stored Nowhere (some r) e f a = absurd (clash (cc))
   stored (At o) none e f a = aged-stored (At o) none (asks-none (requestAt (At (optionsPlace + o)) packet) a)
   stored (At o) (some r) e f a =
       let there = asks-some (requestAt (At (optionsPlace + o)) packet) a in

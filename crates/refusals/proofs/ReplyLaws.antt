@@ -2,18 +2,18 @@
 use Prim.Native.Nat.{ℕ}
 use mathlib.Core.Bool.{Bool, true, false}
 use mathlib.Core.Path.{_≡_, refl}
-use native.Mathlib.Omega.{arith}
+use Rattle.common.proofs.Choice.{clash}
 use Rattle.common.specs.Choice.{pick}
 use Rattle.refusals.specs.Reply.{Reply, answer, refuse, andThen}
 
 -- an answer came through the test
 pub passed : {A : Type 0} (t : Bool) (a : A) (x : Reply A) (n : ℕ) → answer a ≡ pick t x (refuse n) → (t ≡ true) × (answer a ≡ x)
 passed true a x n e = (refl, e)
-passed false a x n e = let z : _≡_ {A = ℕ} 0 1 = cc in absurd (omega arith)
+passed false a x n e = absurd (clash (cc))
 
 -- an answer came past the test that refuses
 pub let-through : {A : Type 0} (t : Bool) (a : A) (x : Reply A) (n : ℕ) → answer a ≡ pick t (refuse n) x → (t ≡ false) × (answer a ≡ x)
-let-through true a x n e = let z : _≡_ {A = ℕ} 0 1 = cc in absurd (omega arith)
+let-through true a x n e = absurd (clash (cc))
 let-through false a x n e = (refl, e)
 
 pub same-answer : {A : Type 0} {a b : A} → answer a ≡ answer b → a ≡ b
@@ -24,10 +24,10 @@ answered t a b n e = let p = passed t a (answer b) n e in (p .0, same-answer (p 
 
 -- a refusal came from the test
 pub refused : {A : Type 0} (t : Bool) (b : A) (m n : ℕ) → refuse m ≡ pick t (answer b) (refuse n) → (t ≡ false) × (m ≡ n)
-refused true b m n e = let z : _≡_ {A = ℕ} 0 1 = cc in absurd (omega arith)
+refused true b m n e = absurd (clash (cc))
 refused false b m n e = (refl, (cc))
 
 -- an answer came through both of two calls
 pub through : {A B : Type 0} (r : Reply A) (next : A → Reply B) (b : B) → andThen r next ≡ answer b → (a : A) × (r ≡ answer a) × (next a ≡ answer b)
 through (answer a) next b e = (a, refl, e)
-through (refuse n) next b e = let z : _≡_ {A = ℕ} 0 1 = cc in absurd (omega arith)
+through (refuse n) next b e = absurd (clash (cc))

@@ -7,7 +7,7 @@ use native.Mathlib.Nat.{add-zero}
 use native.Mathlib.Omega.{arith}
 use lib.ListN.{length, take, drop, length-append, length-drop, take-append-drop, List·getD-append}
 use lib.Seq.{take-suc, drop-at, drop-drop, length-take-le, getD-take, drop-cons}
-use Rattle.common.proofs.Choice.{in-within}
+use Rattle.common.proofs.Choice.{clash, in-within}
 use Rattle.refusals.specs.Reply.{Reply, answer, refuse}
 use Rattle.options.specs.Wire.{optionLength, kindIn, lengthIn}
 use Rattle.options.specs.Requests.{requestKind}
@@ -160,7 +160,7 @@ module _ (place : Place) (offset : ℕ) (bytes : List ℕ) (r : Reply Place) (n 
   here-breaks : (k i : ℕ) → Breaks (At i) k (drop optionLength bytes) → Breaks place k bytes
   here-breaks k i (at-once before left o s w l) =
       behind [] (front .0) before left i o n none (front .1) s (front .2 ∙ ap (λ (t : List ℕ). quickStartOption (front .0) ++ t) w) l
-  here-breaks k i (behind before six between left p o x s f t w l) = let z : _≡_ {A = ℕ} 0 1 = cc in absurd (omega arith)
+  here-breaks k i (behind before six between left p o x s f t w l) = absurd (clash (cc))
 
   here : Yields (At offset) (offset + optionLength) (drop optionLength bytes) r → Yields place offset bytes r
   here (clear e c) =
@@ -174,7 +174,7 @@ module _ (place : Place) (offset : ℕ) (bytes : List ℕ) (r : Reply Place) (n 
         skips = none;
         clear = c;
       })
-  here (holds i m e c) = let z : _≡_ {A = ℕ} 0 1 = cc in absurd (omega arith)
+  here (holds i m e c) = absurd (clash (cc))
   here (breaks k e b) = breaks k e (here-breaks k offset b)
 
 module _ (place : Place) (offset : ℕ) (bytes : List ℕ) (r : Reply Place) (h : 1 ≤ length bytes) (e : walkOn place offset 0 bytes ≡ r) where

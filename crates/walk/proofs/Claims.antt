@@ -7,6 +7,7 @@ use native.Mathlib.Nat.{add-zero, zero-add, le-refl}
 use native.Mathlib.Omega.{arith}
 use lib.ListN.{length, getD, drop, length-append}
 use lib.Seq.{getD-append-add, sets}
+use Rattle.common.proofs.Choice.{clash}
 use Rattle.common.proofs.Lists.{sets-between}
 use Rattle.refusals.specs.Reply.{Reply, answer, refuse}
 use Rattle.options.specs.Wire.{optionLength, kindIn, lengthIn}
@@ -24,14 +25,14 @@ all-yields : (area : List ℕ) (r : Reply Place) → walk area ≡ r → Yields 
 all-yields area r e = yields (length area) Nowhere 0 area r (le-refl (length area)) e
 
 holds-sound : (area : List ℕ) (offset : ℕ) → Yields Nowhere 0 area (answer (At offset)) → Holds offset area
-holds-sound area offset (clear e c) = let z : _≡_ {A = ℕ} 0 1 = cc in absurd (omega arith)
+holds-sound area offset (clear e c) = absurd (clash (cc))
 holds-sound area offset (holds o n e h) = let i : 0 + o ≡ offset = cc in subst (λ (k : ℕ). Holds k area) {x = o} {y = offset} (omega arith) h
-holds-sound area offset (breaks n e b) = let z : _≡_ {A = ℕ} 0 1 = cc in absurd (omega arith)
+holds-sound area offset (breaks n e b) = absurd (clash (cc))
 
 clear-sound : (area : List ℕ) → Yields Nowhere 0 area (answer Nowhere) → Clear area
 clear-sound area (clear e c) = c
-clear-sound area (holds o n e h) = let z : _≡_ {A = ℕ} 0 1 = cc in absurd (omega arith)
-clear-sound area (breaks n e b) = let z : _≡_ {A = ℕ} 0 1 = cc in absurd (omega arith)
+clear-sound area (holds o n e h) = absurd (clash (cc))
+clear-sound area (breaks n e b) = absurd (clash (cc))
 
 sound : (area : List ℕ) (offset : ℕ) → walk area ≡ answer (At offset) → Holds offset area
 sound area offset e = holds-sound area offset (all-yields area (answer (At offset)) e)
@@ -126,18 +127,18 @@ Wrong place n left = (n ≡ 5) × (kindIn left ≡ 25) × (2 ≤ lengthIn left) 
 says : (place : Place) (o n : ℕ) (left : List ℕ) → look place o left ≡ fault n → Bad n left ⊎ Wrong place n left
 says place o n left =
     looks (λ (s : Next). s ≡ fault n → Bad n left ⊎ Wrong place n left) place o left
-    (λ k e. let z : _≡_ {A = ℕ} 0 1 = cc in absurd (omega arith))
-    (λ k e. let z : _≡_ {A = ℕ} 0 1 = cc in absurd (omega arith))
+    (λ k e. absurd (clash (cc)))
+    (λ k e. absurd (clash (cc)))
     (λ a b f e. inl ((cc), a, b, fit-fails left f))
     (λ k f w e. inr ((cc), k, fits-low left f, fits-high left f, w))
-    (λ p k l f e. let z : _≡_ {A = ℕ} 0 1 = cc in absurd (omega arith))
-    (λ a b d f e. let z : _≡_ {A = ℕ} 0 1 = cc in absurd (omega arith))
+    (λ p k l f e. absurd (clash (cc)))
+    (λ a b d f e. absurd (clash (cc)))
 
 faulty-at : (n : ℕ) (before left : List ℕ) → Skipped before → Bad n left ⊎ Wrong Nowhere n left → Faulty n (before ++ left)
 faulty-at n before left s (inl b) = subst (λ (k : ℕ). Faulty k (before ++ left)) (sym (b .0)) (bad-length before left (no-option before s) (b .1) (b .2) (b .3))
 faulty-at n before left s (inr (five, k, l, h, inl w)) =
     subst (λ (k : ℕ). Faulty k (before ++ left)) (sym five) (other-length before left (no-option before s) k l h w)
-faulty-at n before left s (inr (five, k, l, h, inr w)) = let e = w .1 in let z : _≡_ {A = ℕ} 0 1 = cc in absurd (omega arith)
+faulty-at n before left s (inr (five, k, l, h, inr w)) = let e = w .1 in absurd (clash (cc))
 
 faulty-behind : (n p : ℕ) (before six between left : List ℕ) → Skipped before → length six ≡ 6 → Skipped between → Bad n left ⊎ Wrong (At p) n left
     → Faulty n (before ++ (quickStartOption six ++ (between ++ left)))
@@ -149,8 +150,8 @@ faulty-behind n p before six between left s f t (inr w) =
     subst (λ (k : ℕ). Faulty k (before ++ (quickStartOption six ++ (between ++ left)))) (sym (w .0)) (second before six between left s f t (w .1) (w .2) (w .3))
 
 fault-sound : (area : List ℕ) (n : ℕ) → Yields Nowhere 0 area (refuse n) → Faulty n area
-fault-sound area n (clear e c) = let z : _≡_ {A = ℕ} 0 1 = cc in absurd (omega arith)
-fault-sound area n (holds o m e h) = let z : _≡_ {A = ℕ} 0 1 = cc in absurd (omega arith)
+fault-sound area n (clear e c) = absurd (clash (cc))
+fault-sound area n (holds o m e h) = absurd (clash (cc))
 fault-sound area n (breaks m e (at-once before left o s w l)) =
     let same : m ≡ n = cc in
     subst (λ (k : ℕ). Faulty k area) same (subst (λ (x : List ℕ). Faulty m x) (sym w) (faulty-at m before left s (says Nowhere o m left l)))
@@ -206,10 +207,8 @@ unfolding six-zeros look
 shutOut = record {
   none-always = λ w.
       let e : answer Nowhere ≡ answer (At 0) = w .complete _ 0 (behind-fillers [] none) in
-      let z : _≡_ {A = ℕ} 0 1 = cc in
-      omega arith;
+      clash (cc);
   first-only = λ w.
       let e : answer Nowhere ≡ answer (At 1) = w .complete _ 1 (behind-fillers (1 ∷ []) (filler [] none)) in
-      let z : _≡_ {A = ℕ} 0 1 = cc in
-      omega arith;
+      clash (cc);
 }

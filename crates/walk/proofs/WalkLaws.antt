@@ -11,7 +11,7 @@ use lib.Dec.{eqb}
 use lib.ListN.{length, drop, length-drop, drop-of-length-le, List·getD-eq-default}
 use lib.Seq.{drop-drop}
 use Rattle.common.specs.Choice.{within}
-use Rattle.common.proofs.Choice.{le-or-gt, within-low, within-high, in-within}
+use Rattle.common.proofs.Choice.{clash, le-or-gt, within-low, within-high, in-within}
 use Rattle.refusals.specs.Reply.{answer, refuse}
 use Rattle.options.specs.Wire.{optionLength, kindIn, lengthIn}
 use Rattle.options.specs.Requests.{requestKind}
@@ -125,17 +125,17 @@ fit-fails left e = go (le-or-gt 2 (lengthIn left)) (le-or-gt (lengthIn left) (le
     go : (2 ≤ lengthIn left) ⊎ (lengthIn left < 2) → (lengthIn left ≤ length left) ⊎ (length left < lengthIn left) → (lengthIn left < 2) ⊎ (length left < lengthIn left)
     go (inr l) o = inl l
     go (inl l) (inr h) = inr h
-    go (inl l) (inl h) = let z : true ≡ false = sym (in-fit left l h) ∙ e in let y : _≡_ {A = ℕ} 0 1 = cc in absurd (omega arith)
+    go (inl l) (inl h) = let z : true ≡ false = sym (in-fit left l h) ∙ e in absurd (clash (cc))
 
 -- an option that the walk goes past has at least one byte, and lies in the area
 pub past-fits : (place found : Place) (offset len : ℕ) (option : List ℕ) → 1 ≤ length option → look place offset option ≡ past found len
     → (1 ≤ len) × (len ≤ length option)
 past-fits place found offset len option h =
     looks (λ (s : Next). s ≡ past found len → (1 ≤ len) × (len ≤ length option)) place offset option
-    (λ k e. let z : _≡_ {A = ℕ} 0 1 = cc in absurd (omega arith))
+    (λ k e. absurd (clash (cc)))
     (λ k e. let s : 1 ≡ len = same-past e .1 in (omega arith, omega arith))
-    (λ a b f e. let z : _≡_ {A = ℕ} 0 1 = cc in absurd (omega arith))
-    (λ k f o e. let z : _≡_ {A = ℕ} 0 1 = cc in absurd (omega arith))
+    (λ a b f e. absurd (clash (cc)))
+    (λ k f o e. absurd (clash (cc)))
     (λ p k l f e. let s : lengthIn option ≡ len = same-past e .1 in (omega (arith, fits-low option f), omega (arith, fits-high option f)))
     (λ a b d f e. let s : lengthIn option ≡ len = same-past e .1 in (omega (arith, fits-low option f), omega (arith, fits-high option f)))
 
