@@ -1,4 +1,6 @@
 -- The claims of specs/Claims.antt, from the laws of sums, of sealed packets, of options and of views. Assumes nothing.
+use Rattle.ipv4.specs.Packets.{walked}
+use Rattle.refusals.specs.Reply.{Reply, andThen}
 use Prim.Native.Nat.{ℕ, zero, suc, _%_}
 use mathlib.Core.Path.{_≡_, refl, sym, ap, _∙_}
 use native.Mathlib.Omega.{arith}
@@ -10,7 +12,7 @@ use Rattle.ipv4.specs.Claims.{wordTotal, Summing, Sealing, Reading, Loca
 use Rattle.ipv4.proofs.ChecksumLaws.{folded, folded-limit, sum-folded, length-sealed}
 use Rattle.ipv4.proofs.HeaderLaws.{form, good, checked-when}
 use Rattle.ipv4.proofs.SealLaws.{sealed-others, bytes-sealed, sum-sealed, which, which-pass, passes}
-use Rattle.ipv4.proofs.OptionLaws.{located-of}
+use Rattle.ipv4.proofs.OptionLaws.{located-of, found, located-fault, made-of, made-clear}
 use Rattle.ipv4.proofs.SealLaws as seals
 use Rattle.ipv4.proofs.ReadLaws as reads
 use Rattle.ipv4.proofs.PutLaws as puts
@@ -54,8 +56,12 @@ reading = reads.reading
 pub locating : Locating
 locating = record {
   inside = puts.at-place;
+  refused = λ reach n packet e. ap (λ (r : Reply ℕ). andThen r (λ header. walked packet)) e;
   complete = λ reach h offset packet e holds. located-of reach h packet (At offset) e (walking .complete (optionsOf packet) offset holds);
   none-complete = λ reach h packet e clear. located-of reach h packet Nowhere e (walking .none-complete (optionsOf packet) clear);
+  fault-complete = λ reach h n packet e fault. located-fault reach h n packet e (walking .fault-complete (optionsOf packet) n fault);
+  sound = λ reach place packet e. let f = found reach packet (At place) e in made-of packet place (f .inner) (f .by-walk) (f .moved);
+  none-sound = λ reach packet e. let f = found reach packet Nowhere e in made-clear packet (f .inner) (f .by-walk) (f .moved);
 }
 
 pub viewing : Viewing

@@ -16,6 +16,7 @@ use Rattle.options.specs.Requests.{requestKind, isRequest, requestRead}
 use Rattle.walk.specs.declared.Place.{Place}
 use Rattle.walk.specs.declared.Place.the-variants.{Nowhere, At}
 use Rattle.walk.specs.Walks.{walk}
+use Rattle.walk.specs.Claims.{Holds, Clear}
 use Rattle.walk.proofs.Claims.{walking}
 use Rattle.ipv4.specs.Headers.{optionsPlace, wordAt, ipTtl, headerLength, headerOf, optionsOf}
 use Rattle.ipv4.specs.Checks.{headerChecked}
@@ -63,6 +64,20 @@ inside-of reach packet place (At o) g w e = let s : optionsPlace + o ≡ place =
 pub located-of : (reach h : ℕ) (packet : List ℕ) (inner : Place) → headerChecked reach packet ≡ answer h → walk (optionsOf packet) ≡ answer inner → located reach packet ≡ answer (inPacket inner)
 located-of reach h packet inner e w =
     ap (λ (r : Reply ℕ). andThen r (λ header. walked packet)) e ∙ ap (λ (r : Reply Place). andThen r (λ place. answer (inPacket place))) w
+
+pub located-fault : (reach h n : ℕ) (packet : List ℕ) → headerChecked reach packet ≡ answer h → walk (optionsOf packet) ≡ refuse n → located reach packet ≡ refuse n
+located-fault reach h n packet e w =
+    ap (λ (r : Reply ℕ). andThen r (λ header. walked packet)) e ∙ ap (λ (r : Reply Place). andThen r (λ place. answer (inPacket place))) w
+
+-- what the area is made of, where an option was located, and where none was
+pub made-of : (packet : List ℕ) (place : ℕ) (inner : Place) → walk (optionsOf packet) ≡ answer inner → At place ≡ inPacket inner
+    → (offset : ℕ) × (place ≡ optionsPlace + offset) × Holds offset (optionsOf packet)
+made-of packet place Nowhere w e = absurd (clash (cc))
+made-of packet place (At o) w e = (o, (cc), walking .sound (optionsOf packet) o w)
+
+pub made-clear : (packet : List ℕ) (inner : Place) → walk (optionsOf packet) ≡ answer inner → Nowhere ≡ inPacket inner → Clear (optionsOf packet)
+made-clear packet Nowhere w e = walking .none-sound (optionsOf packet) w
+made-clear packet (At o) w e = absurd (clash (cc))
 
 -- ---- the view of a packet
 

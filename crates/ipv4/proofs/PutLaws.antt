@@ -6,6 +6,7 @@ use mathlib.Core.Logic.{inl}
 use mathlib.Core.Option.{Option, none, some}
 use mathlib.Core.Path.{_≡_, refl, sym, ap, ap₂, subst, _∙_}
 use native.Mathlib.Omega.{arith}
+use borrow.Author.Tests.{le-leb}
 use lib.ListN.{length, getD, set, take, length-set}
 use lib.Seq.{getD-set-same, getD-set-other, set-getD, drop-set-lt, sets}
 use Rattle.common.proofs.Choice.{clash}
@@ -207,6 +208,9 @@ forwarding = record {
       ap (λ (r : Reply ℕ). andThen r (λ header. passedOn reach packet)) (checked-when reach packet (g .well) (g .sum))
       ∙ ap (passedOn reach) own
       ∙ puts reach packet (p .0) v (v .request) b (p .1) e (view-fits reach packet v b e .request-fits) refl h;
+  expired = λ reach packet w h. simp (w, le-leb (ipTtl packet) 1 h);
+  not-forwarded = λ reach n packet e. ap (λ (r : Reply ℕ). andThen r (λ header. passedOn reach packet)) e;
+  forwarded-by = λ reach h packet e. ap (λ (r : Reply ℕ). andThen r (λ header. passedOn reach packet)) e;
   lowered = λ reach packet new e.
       let p = passed-is reach packet new e in
       let ttl = ipTtl packet - 1 in

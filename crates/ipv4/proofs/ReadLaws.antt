@@ -1,14 +1,15 @@
 -- Laws of what is read of a packet: how far the total length may reach, and the header by itself. Assumes nothing.
-use Prim.Native.Nat.{ℕ, _-_, _<_}
+use Rattle.common.specs.Lists.{Bytes}
+use Prim.Native.Nat.{ℕ, _-_, _<_, _*_, _%_, _+_}
 use mathlib.Core.Bool.{Bool, true, false, _&&_}
 use mathlib.Core.List.{List}
 use mathlib.Core.Path.{_≡_, refl, sym, ap, ap₂, _∙_}
 use native.Mathlib.Nat.{le-refl}
 use native.Mathlib.Omega.{arith}
-use borrow.Author.Tests.{le-leb, lt-leb, leb-false}
+use borrow.Author.Tests.{le-leb, lt-leb, leb-false, ne-eqb}
 use lib.Dec.{leb, eqb}
-use lib.ListN.{length, set, take, drop, length-set}
-use lib.Seq.{getD-set-other, take-set-lt}
+use lib.ListN.{length, set, take, drop, length-set, getD, length-drop}
+use lib.Seq.{getD-set-other, take-set-lt, getD-drop, getD-take, length-take-le}
 use Rattle.common.specs.Choice.{pick, within}
 use Rattle.refusals.specs.Reply.{Reply, answer, refuse, andThen}
 use Rattle.refusals.proofs.ReplyLaws.{passed, let-through, same-answer}
@@ -17,9 +18,9 @@ use Rattle.ipv4.specs.Headers.{leastHeader, optionsPlace, versionIn, len
 use Rattle.ipv4.specs.Checksums.{allOnes, onesSum, sealed}
 use Rattle.ipv4.specs.Checks.{wellFormed, headerChecked}
 use Rattle.ipv4.specs.Packets.{inPacket, walked, passedOn}
-use Rattle.ipv4.specs.Claims.{Reading}
-use Rattle.ipv4.proofs.HeaderLaws.{form, least}
-use Rattle.ipv4.proofs.SealLaws.{same-form, length-alone, alone, form-alone, ttl-alone, sealed-alone}
+use Rattle.ipv4.specs.Claims.{Reading, ValidChecksum}
+use Rattle.ipv4.proofs.HeaderLaws.{form, least, formed}
+use Rattle.ipv4.proofs.SealLaws.{same-form, length-alone, alone, form-alone, ttl-alone, sealed-alone, which}
 
 regroup : (a x y : Bool) → a && (x && y) ≡ (a && (x && true)) && y
 regroup true true y = refl
@@ -80,8 +81,24 @@ passed-alike reach packet new e =
     ∙ ap (λ (l : List ℕ). answer (sealed l)) header
     ∙ ap answer (sealed-alone reach aged (form reach aged (ttl-form reach packet ttl .0 ∙ p .0)) ∙ ap headerOf (sym (p .2)))
 
+header-length : (packet : List ℕ) → headerLength packet ≡ getD packet 0 0 % 16 * 4
+unfolding headerLength
+header-length packet = refl
+
+damaged : (reach : ℕ) (packet : List ℕ) → Bytes packet → wellFormed reach packet ≡ true → (ValidChecksum packet → ⊥) → headerChecked reach packet ≡ refuse 2
+damaged reach packet b w n = simp (w, ne-eqb (onesSum (headerOf packet)) allOnes (λ s. n (which reach packet (form reach packet w) b s)))
+
 pub reading : Reading
 reading = record {
+  header-length = header-length;
+  well-formed = form;
+  form-suffices = formed;
+  malformed = λ reach packet w. simp w;
+  damaged = damaged;
+  area-long = λ reach packet w.
+      length-drop optionsPlace (headerOf packet)
+      ∙ ap (λ (n : ℕ). n - optionsPlace) (length-take-le (headerLength packet) packet (form reach packet w .inside));
+  area-at = λ packet i h. getD-drop optionsPlace (headerOf packet) i 0 ∙ getD-take (headerLength packet) packet (optionsPlace + i) 0 h;
   reach-only = reach-only;
   checked-alike = checked-alike;
   located-alike = λ reach packet w.

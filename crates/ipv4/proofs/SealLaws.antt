@@ -16,9 +16,9 @@ use Rattle.ipv4.specs.Headers.{leastHeader, optionsPlace, wordAt, ttlPla
 use Rattle.ipv4.specs.Checksums.{allOnes, onesSum, withChecksum, checksumOf, sealed}
 use Rattle.ipv4.specs.Checks.{wellFormed, headerChecked}
 use Rattle.ipv4.specs.Packets.{inPacket, walked, located}
-use Rattle.ipv4.specs.Claims.{OutsideChecksum, ValidChecksum, wordTotal}
+use Rattle.ipv4.specs.Claims.{OutsideChecksum, ValidChecksum, wordTotal, HeaderForm}
 use Rattle.ipv4.proofs.ChecksumLaws.{folded, checksum-is, fills, fills-only, fills-all, sum-field, sealed-sum, field-twice, take-field, bytes-field, length-sealed}
-use Rattle.ipv4.proofs.HeaderLaws.{Form, form, formed, least, length-kept, checked-when}
+use Rattle.ipv4.proofs.HeaderLaws.{form, formed, least, length-kept, checked-when}
 
 -- ---- packets that agree in what a well-formed header depends on
 
@@ -70,7 +70,7 @@ bytes-sealed packet b =
     let c = checksum-is (headerOf packet) (bytes-front (headerLength packet) packet b) in
     bytes-field (checksumOf (headerOf packet)) packet (omega arith) b
 
-module _ (reach : ℕ) (packet : List ℕ) (f : Form reach packet) where
+module _ (reach : ℕ) (packet : List ℕ) (f : HeaderForm reach packet) where
   header-sealed : headerOf (sealed packet) ≡ withChecksum (checksumOf (headerOf packet)) (headerOf packet)
   unfolding sealed
   header-sealed =

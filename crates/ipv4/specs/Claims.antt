@@ -15,7 +15,7 @@ use Rattle.options.specs.declared.request.Request.{Request}
 use Rattle.options.specs.Wire.{nonceLimit, reservedIn}
 use Rattle.walk.specs.declared.Place.{Place}
 use Rattle.walk.specs.declared.Place.the-variants.{Nowhere, At}
-use Rattle.walk.specs.Claims.{Holds, Clear}
+use Rattle.walk.specs.Claims.{Holds, Clear, Faulty}
 use Rattle.ipv4.specs.Headers.{wordAt, headerLength, totalLength, checksumIn, headerOf, optionsOf}
 use Rattle.ipv4.specs.Checksums.{onesSum, checksumOf, sealed}
 use Rattle.ipv4.specs.Checks.{wellFormed, headerChecked}
@@ -61,10 +61,29 @@ pub record Sealing : Type 0 where
 
 -- ---- what is read of a packet
 
+-- a well-formed header, by RFC 791's places: version and length field in byte 0, the total length in bytes 2 and 3
+pub record HeaderForm (reach : ℕ) (packet : List ℕ) : Type 0 where
+  pub long : 20 ≤ length packet
+  pub version : getD packet 0 0 / 16 ≡ 4
+  pub words : 5 ≤ getD packet 0 0 % 16
+  pub inside : headerLength packet ≤ length packet
+  pub total-low : headerLength packet ≤ getD packet 2 0 * 256 + getD packet 3 0
+  pub total-high : getD packet 2 0 * 256 + getD packet 3 0 ≤ reach
+
 pub record Reading : Type 0 where
+  -- the header's length, and exactly when a header is well formed
+  pub header-length : (packet : List ℕ) → headerLength packet ≡ getD packet 0 0 % 16 * 4
+  pub well-formed : (reach : ℕ) (packet : List ℕ) → wellFormed reach packet ≡ true → HeaderForm reach packet
+  pub form-suffices : (reach : ℕ) (packet : List ℕ) → HeaderForm reach packet → wellFormed reach packet ≡ true
+  -- 1 where it is not, then 2 where the checksum is none that passes
+  pub malformed : (reach : ℕ) (packet : List ℕ) → wellFormed reach packet ≡ false → headerChecked reach packet ≡ refuse 1
+  pub damaged : (reach : ℕ) (packet : List ℕ) → Bytes packet → wellFormed reach packet ≡ true → (ValidChecksum packet → ⊥) → headerChecked reach packet ≡ refuse 2
+  -- the options area: the bytes of the header from byte 20 on
+  pub area-long : (reach : ℕ) (packet : List ℕ) → wellFormed reach packet ≡ true → length (optionsOf packet) ≡ headerLength packet - 20
+  pub area-at : (packet : List ℕ) (i : ℕ) → 20 + i < headerLength packet → getD (optionsOf packet) i 0 ≡ getD packet (20 + i) 0
   -- the total length may reach as far as is said, and that is all that the reach is for
   pub reach-only : (reach : ℕ) (packet : List ℕ) → wellFormed reach packet ≡ (wellFormed (totalLength packet) packet && leb (totalLength packet) reach)
-  -- bytes behind the header are not read: the header by itself is answered alike, and passed on alike
+  -- bytes behind the header are not read: the header of a well-formed packet is by itself answered alike, and passed on alike
   pub checked-alike : (reach : ℕ) (packet : List ℕ) → wellFormed reach packet ≡ true → headerChecked reach (headerOf packet) ≡ headerChecked reach packet
   pub located-alike : (reach : ℕ) (packet : List ℕ) → wellFormed reach packet ≡ true → located reach (headerOf packet) ≡ located reach packet
   pub passed-alike : (reach : ℕ) (packet new : List ℕ) → passedOn reach packet ≡ answer new → passedOn reach (headerOf packet) ≡ answer (headerOf new)
@@ -79,9 +98,14 @@ pub record Inside (place : ℕ) (packet : List ℕ) : Type 0 where
 
 pub record Locating : Type 0 where
   pub inside : (reach place : ℕ) (packet : List ℕ) → located reach packet ≡ answer (At place) → Inside place packet
-  -- and an option that the options area holds is located
+  -- what the check refuses is refused; of any other packet the options area says what is located
+  pub refused : (reach n : ℕ) (packet : List ℕ) → headerChecked reach packet ≡ refuse n → located reach packet ≡ refuse n
   pub complete : (reach h offset : ℕ) (packet : List ℕ) → headerChecked reach packet ≡ answer h → Holds offset (optionsOf packet) → located reach packet ≡ answer (At (20 + offset))
   pub none-complete : (reach h : ℕ) (packet : List ℕ) → headerChecked reach packet ≡ answer h → Clear (optionsOf packet) → located reach packet ≡ answer Nowhere
+  pub fault-complete : (reach h n : ℕ) (packet : List ℕ) → headerChecked reach packet ≡ answer h → Faulty n (optionsOf packet) → located reach packet ≡ refuse n
+  -- and what is located is there
+  pub sound : (reach place : ℕ) (packet : List ℕ) → located reach packet ≡ answer (At place) → (offset : ℕ) × (place ≡ 20 + offset) × Holds offset (optionsOf packet)
+  pub none-sound : (reach : ℕ) (packet : List ℕ) → located reach packet ≡ answer Nowhere → Clear (optionsOf packet)
 
 -- ---- the view
 
@@ -160,6 +184,10 @@ pub record Forwarding : Type 0 where
   -- a packet forwarded as it came: its view with the IP TTL one lower
   pub puts-back : (reach : ℕ) (packet : List ℕ) (v : View) → Bytes packet → view reach packet ≡ answer v → 1 < v .ttl
       → forwarded reach packet ≡ answer (put packet (record { ttl = v .ttl - 1; request = v .request }))
+  -- 6 for an IP TTL of 0 or 1; a packet that came with a wrong header is not forwarded, and any other is passed on, whatever its options are
+  pub expired : (reach : ℕ) (packet : List ℕ) → wellFormed reach packet ≡ true → getD packet 8 0 ≤ 1 → passedOn reach packet ≡ refuse 6
+  pub not-forwarded : (reach n : ℕ) (packet : List ℕ) → headerChecked reach packet ≡ refuse n → forwarded reach packet ≡ refuse n
+  pub forwarded-by : (reach h : ℕ) (packet : List ℕ) → headerChecked reach packet ≡ answer h → forwarded reach packet ≡ passedOn reach packet
   -- whatever the options are: the IP TTL is one lower, no byte changes but it and the checksum, the header passes the check, and the options are as they were
   pub lowered : (reach : ℕ) (packet new : List ℕ) → passedOn reach packet ≡ answer new → getD new 8 0 + 1 ≡ getD packet 8 0
   pub others : (reach : ℕ) (packet new : List ℕ) → passedOn reach packet ≡ answer new → (i : ℕ) → (i ≡ 8 → ⊥) → OutsideChecksum i → getD new i 0 ≡ getD packet i 0
@@ -172,6 +200,10 @@ pub record EcnMarking : Type 0 where
   -- by the two bits: 00 and 01 have ECT clear, 10 and 11 have it set
   pub dropped-when : (h : ℕ) (packet : List ℕ) → headerChecked (length packet) packet ≡ answer h → getD packet 1 0 % 4 < 2 → markReply packet ≡ answer dropped
   pub marked-when : (h : ℕ) (packet : List ℕ) → headerChecked (length packet) packet ≡ answer h → 2 ≤ getD packet 1 0 % 4 → markReply packet ≡ answer marked
+  pub refused-when : (n : ℕ) (packet : List ℕ) → headerChecked (length packet) packet ≡ refuse n → markReply packet ≡ refuse n
+  -- no byte changes where the packet is to be dropped, or is refused
+  pub dropped-same : (packet : List ℕ) → markReply packet ≡ answer dropped → markedPacket packet ≡ packet
+  pub refused-same : (n : ℕ) (packet : List ℕ) → markReply packet ≡ refuse n → markedPacket packet ≡ packet
   -- marking changes no byte but the second and the checksum
   pub others : (packet : List ℕ) (i : ℕ) → (i ≡ 1 → ⊥) → OutsideChecksum i → getD (markedPacket packet) i 0 ≡ getD packet i 0
   pub long : (packet : List ℕ) → length (markedPacket packet) ≡ length packet
