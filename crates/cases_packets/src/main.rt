@@ -61,8 +61,8 @@ fn show(name: &[u8], packet: &[u8]) {
 }
 
 // The bytes after a call that changes none.
-fn left(name: &[u8], packet: &[u8]) {
-    start(name, b"left");
+fn unchanged(name: &[u8], packet: &[u8]) {
+    start(name, b"unchanged");
     bytes(packet);
 }
 
@@ -98,26 +98,26 @@ fn ttl(name: &[u8], packet: &[u8]) {
 }
 
 // What passing on answered, and the bytes after it.
-fn passed(name: &[u8], answer: Forwarded, packet: &[u8]) {
-    match answer {
+fn passed(name: &[u8], reply: Forwarded, packet: &[u8]) {
+    match reply {
         Forwarded::Done => bytes(packet),
         Forwarded::Refused(why) => {
             refused(why);
-            left(name, packet);
+            unchanged(name, packet);
         }
     }
 }
 
 fn forward(name: &[u8], packet: &mut [u8]) {
     start(name, b"forward");
-    let answer = ipv4::forward(packet);
-    passed(name, answer, packet);
+    let reply = ipv4::forward(packet);
+    passed(name, reply, packet);
 }
 
 fn pass_on(name: &[u8], packet: &mut [u8]) {
     start(name, b"pass on");
-    let answer = ipv4::pass_on(packet);
-    passed(name, answer, packet);
+    let reply = ipv4::pass_on(packet);
+    passed(name, reply, packet);
 }
 
 fn mark(name: &[u8], packet: &mut [u8]) {
@@ -126,11 +126,11 @@ fn mark(name: &[u8], packet: &mut [u8]) {
         Marking::Marked => bytes(packet),
         Marking::Drop => {
             say(b" drop\n");
-            left(name, packet);
+            unchanged(name, packet);
         }
         Marking::Refused(why) => {
             refused(why);
-            left(name, packet);
+            unchanged(name, packet);
         }
     }
 }
@@ -184,7 +184,7 @@ fn run_in_place(name: &[u8], packet: &mut [u8]) {
 }
 
 // The plain header with ECT set and these options; its checksum is handed in. Options have at most 40
-// bytes, so that the remainders, here and below, change no number.
+// bytes here; the remainder by 64 is there so that no sum can run out of its range.
 fn with_options(checksum: u32, options: &[u8]) -> [u8; 60] {
     let mut p = [0u8; 60];
     put(&mut p, 0, &PLAIN);
@@ -585,6 +585,11 @@ fn zero_checksums() {
     p[8] = 65;
     p[10] = 0xfe;
     run(b"ect and checksum feff", &p);
+    p[1] = 1;
+    p[5] = 0x8f;
+    p[8] = 64;
+    p[10] = 0xff;
+    run(b"ce alone and checksum ffff", &p);
 }
 
 fn long_slices() {

@@ -8,8 +8,8 @@ use crate::check_header;
 use crate::seal;
 use refusals::Refusal;
 
-// The byte that holds both bits.
-const ECN: usize = 1;
+// The byte that holds both bits: CE is its lowest, ECT the one above it.
+const ECN_BYTE: usize = 1;
 
 pub enum Marking {
     Marked,
@@ -27,11 +27,11 @@ pub fn mark(packet: &mut [u8]) -> Marking
     match check_header(packet) {
         Checked::Refused(why) => Marking::Refused(why),
         Checked::HeaderLength(_) => {
-            let byte = packet[ECN];
+            let byte = packet[ECN_BYTE];
             if byte / 2 % 2 != 1 {
                 return Marking::Drop;
             }
-            packet[ECN] = byte / 2 * 2 + 1;
+            packet[ECN_BYTE] = byte / 2 * 2 + 1;
             seal(packet);
             Marking::Marked
         }

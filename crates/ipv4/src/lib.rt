@@ -27,13 +27,19 @@ const CHECKSUM: usize = 10;
 
 const OPTIONS: usize = 20;
 
+// The length of a header without options.
+const LEAST_HEADER: usize = 20;
+
 const VERSION: u8 = 4;
 
-// The least length field: a header of 20 bytes, which has no options.
+// The least length field: it counts words of 32 bits.
 const LEAST_WORDS: u8 = 5;
 
 // What a header's 16-bit words sum to, its checksum among them.
 const ALL_ONES: u32 = 65_535;
+
+// 2^16: what does not fit 16 bits any more.
+const CARRY: u32 = 65_536;
 
 pub enum Checked {
     HeaderLength(usize),
@@ -71,7 +77,7 @@ fn header_length(packet: &[u8]) -> usize
 fn well_formed(packet: &[u8]) -> bool
     ensures { λ r. ⌜ r ≡ wellFormed (length (now (packet .entry))) (now (packet .entry)) ⌝ }
 {
-    if packet.len() < OPTIONS {
+    if packet.len() < LEAST_HEADER {
         return false;
     }
     let first = packet[VERSION_AND_LENGTH];
@@ -100,8 +106,8 @@ fn header_sum(header: &[u8]) -> u32
         sum += word_at(header, i);
         i += 2;
     }
-    let folded = sum % 65_536 + sum / 65_536;
-    folded % 65_536 + folded / 65_536
+    let folded = sum % CARRY + sum / CARRY;
+    folded % CARRY + folded / CARRY
 }
 
 // Writes the checksum's field.

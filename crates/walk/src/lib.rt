@@ -16,8 +16,8 @@ const NO_OPERATION: u8 = 1;
 // The least length byte: it counts the type and itself.
 const LEAST_LENGTH: usize = 2;
 
-// Where a Quick-Start option stands: the offset of its type in the bytes that were looked through, which
-// are an options area here, and a packet where a packet is looked through.
+// Where a Quick-Start option stands, by the offset of its type: in the options area as `find` answers, in
+// the packet as `ipv4::locate` does.
 pub enum Place {
     Nowhere,
     At(usize),
