@@ -4,8 +4,8 @@ use mathlib.Core.Bool.{Bool, true, false, not, _&&_}
 use mathlib.Core.Logic.{_⊎_, inl, inr}
 use mathlib.Core.Path.{_≡_, refl, sym, _∙_}
 use native.Mathlib.Omega.{arith}
-use lib.Dec.{leb, ltb, eqb}
-use borrow.Author.Tests.{lt-ltb, le-ltb, le-leb, lt-leb, eq-eqb, ne-eqb, leb-true, leb-false, ltb-true, ltb-false, eqb-true, eqb-false, not-true, not-false}
+use lib.Dec.{leb, ltb}
+use borrow.Author.Tests.{lt-ltb, le-ltb, le-leb, lt-leb, eq-eqb, ne-eqb, leb-true, leb-false, ltb-true, ltb-false, not-true, not-false}
 use Rattle.common.specs.Choice.{pick, within}
 
 -- `search tests` closes a return whose contract chooses by the very tests that led there
@@ -22,9 +22,6 @@ module _ {A : Type 0} (P : A → Type 0) (a b : ℕ) {x y : A} where
 
   pub by-ltb : (a < b → P x) → (b ≤ a → P y) → P (pick (ltb a b) x y)
   by-ltb f g = by-test P (ltb a b) (λ e. f (ltb-true a b e)) (λ e. g (ltb-false a b e))
-
-  pub by-eqb : (a ≡ b → P x) → ((a ≡ b → ⊥) → P y) → P (pick (eqb a b) x y)
-  by-eqb f g = by-test P (eqb a b) (λ e. f (eqb-true a b e)) (λ e. g (eqb-false a b e))
 
 -- a call whose answer r is the test t: what is known of the test past `if !r { return .. }`, and in its arm
 pub held : (r t : Bool) → r ≡ t → not r ≡ false → t ≡ true

@@ -1,6 +1,7 @@
 -- Laws of a located option: where it lies, what its bytes read as, and what a view shows of it. Assumes nothing.
 use Prim.Native.Nat.{ℕ, suc, _+_, _-_, _*_, _/_, _%_, _<_}
 use mathlib.Core.List.{List}
+use mathlib.Core.Logic.{_⊎_, inl, inr}
 use mathlib.Core.Option.{none, some}
 use mathlib.Core.Path.{_≡_, refl, sym, ap, ap₂, subst, _∙_}
 use native.Mathlib.Nat.{add-zero}
@@ -10,13 +11,13 @@ use lib.ListN.{length, getD, drop, length-drop}
 use lib.Seq.{getD-take, getD-drop, length-take-le}
 use Rattle.common.proofs.Choice.{clash}
 use Rattle.refusals.specs.Reply.{Reply, answer, refuse, andThen}
-use Rattle.refusals.proofs.ReplyLaws.{same-answer, through}
+use Rattle.refusals.proofs.ReplyLaws.{same-answer, through, refused-by}
 use Rattle.options.specs.Wire.{optionLength, kindIn, lengthIn, highHalf, wordOf, rateIn, ttlIn, nonceIn}
 use Rattle.options.specs.Requests.{requestKind, isRequest, requestRead}
 use Rattle.walk.specs.declared.Place.{Place}
 use Rattle.walk.specs.declared.Place.the-variants.{Nowhere, At}
 use Rattle.walk.specs.Walks.{walk}
-use Rattle.walk.specs.Claims.{Holds, Clear}
+use Rattle.walk.specs.Claims.{Holds, Clear, Faulty}
 use Rattle.walk.proofs.Claims.{walking}
 use Rattle.ipv4.specs.Headers.{optionsPlace, wordAt, ipTtl, headerLength, headerOf, optionsOf}
 use Rattle.ipv4.specs.Checks.{headerChecked}
@@ -78,6 +79,19 @@ made-of packet place (At o) w e = (o, (cc), walking .sound (optionsOf packet) o 
 pub made-clear : (packet : List ℕ) (inner : Place) → walk (optionsOf packet) ≡ answer inner → Nowhere ≡ inPacket inner → Clear (optionsOf packet)
 made-clear packet Nowhere w e = walking .none-sound (optionsOf packet) w
 made-clear packet (At o) w e = absurd (clash (cc))
+
+-- and what is wrong where the packet was refused: its header, or its area
+pub made-faulty : (reach n : ℕ) (packet : List ℕ) → located reach packet ≡ refuse n → (headerChecked reach packet ≡ refuse n) ⊎ Faulty n (optionsOf packet)
+made-faulty reach n packet e = by-check (refused-by (headerChecked reach packet) (λ header. walked packet) n e)
+  where
+    by-walk : (walk (optionsOf packet) ≡ refuse n) ⊎ ((a : Place) × (walk (optionsOf packet) ≡ answer a) × (answer (inPacket a) ≡ refuse n)) → Faulty n (optionsOf packet)
+    by-walk (inl w) = walking .fault-sound (optionsOf packet) n w
+    by-walk (inr (a, w, x)) = absurd (clash (cc))
+
+    by-check : (headerChecked reach packet ≡ refuse n) ⊎ ((h : ℕ) × (headerChecked reach packet ≡ answer h) × (walked packet ≡ refuse n))
+        → (headerChecked reach packet ≡ refuse n) ⊎ Faulty n (optionsOf packet)
+    by-check (inl c) = inl c
+    by-check (inr (h, c, w)) = inr (by-walk (refused-by (walk (optionsOf packet)) (λ (p : Place). answer (inPacket p)) n w))
 
 -- ---- the view of a packet
 

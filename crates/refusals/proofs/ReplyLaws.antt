@@ -1,7 +1,8 @@
 -- Laws of replies: what an answer or a refusal says of the tests and calls that it came through. Assumes nothing.
 use Prim.Native.Nat.{ℕ}
 use mathlib.Core.Bool.{Bool, true, false}
-use mathlib.Core.Path.{_≡_, refl}
+use mathlib.Core.Logic.{_⊎_, inl, inr}
+use mathlib.Core.Path.{_≡_, refl, ap}
 use Rattle.common.proofs.Choice.{clash}
 use Rattle.common.specs.Choice.{pick}
 use Rattle.refusals.specs.Reply.{Reply, answer, refuse, andThen}
@@ -31,3 +32,8 @@ refused false b m n e = (refl, (cc))
 pub through : {A B : Type 0} (r : Reply A) (next : A → Reply B) (b : B) → andThen r next ≡ answer b → (a : A) × (r ≡ answer a) × (next a ≡ answer b)
 through (answer a) next b e = (a, refl, e)
 through (refuse n) next b e = absurd (clash (cc))
+
+-- a refusal came from the first of two calls, or from the second
+pub refused-by : {A B : Type 0} (r : Reply A) (next : A → Reply B) (n : ℕ) → andThen r next ≡ refuse n → (r ≡ refuse n) ⊎ ((a : A) × (r ≡ answer a) × (next a ≡ refuse n))
+refused-by (answer a) next n e = inr (a, refl, e)
+refused-by (refuse m) next n e = inl (ap refuse (cc))
