@@ -2,10 +2,10 @@
 use Prim.Native.Nat.{ℕ}
 use mathlib.Core.Bool.{Bool, true, false}
 use mathlib.Core.Logic.{_⊎_, inl, inr}
-use mathlib.Core.Path.{_≡_, refl, ap}
+use mathlib.Core.Path.{_≡_, refl, sym, ap}
 use Rattle.common.proofs.Choice.{clash}
 use Rattle.common.specs.Choice.{pick}
-use Rattle.refusals.specs.Reply.{Reply, answer, refuse, andThen}
+use Rattle.refusals.specs.Reply.{Reply, answer, refuse, leaves, done, andThen}
 
 -- an answer came through the test
 pub passed : {A : Type 0} (t : Bool) (a : A) (x : Reply A) (n : ℕ) → answer a ≡ pick t x (refuse n) → (t ≡ true) × (answer a ≡ x)
@@ -37,3 +37,12 @@ through (refuse n) next b e = absurd (clash (cc))
 pub refused-by : {A B : Type 0} (r : Reply A) (next : A → Reply B) (n : ℕ) → andThen r next ≡ refuse n → (r ≡ refuse n) ⊎ ((a : A) × (r ≡ answer a) × (next a ≡ refuse n))
 refused-by (answer a) next n e = inr (a, refl, e)
 refused-by (refuse m) next n e = inl (ap refuse (cc))
+
+-- a call that says whether it was done, and leaves a new value or the old one: what its reply was
+pub went : {A : Type 0} (old new : A) (r : Reply A) → answer tt ≡ done r → new ≡ leaves old r → r ≡ answer new
+went old new (answer a) d e = ap answer (sym e)
+went old new (refuse n) d e = absurd (clash (cc))
+
+pub stayed : {A : Type 0} (old new : A) (r : Reply A) (n : ℕ) → refuse n ≡ done r → new ≡ leaves old r → (r ≡ refuse n) × (new ≡ old)
+stayed old new (answer a) n d e = absurd (clash (cc))
+stayed old new (refuse m) n d e = (ap refuse (cc), e)

@@ -1,0 +1,232 @@
+// The ledger of a link: what a router approved on the link in the last ticks, so that approvals
+// together never pass the link's allowance. The link lends a row of slots, one for each of the
+// last ticks, and the ledger's record with the stored tick and the allowance.
+ghost use mathlib.Core.Path.{_≡_};
+ghost use Prim.Native.Nat.{_+_, _≤_, _<_, min};
+ghost use lib.ListN.{length, replicate};
+ghost use Rattle.rates.specs.Steps.{topCode, rateOf, greatestUpTo};
+ghost use Rattle.refusals.specs.Reply.{leaves, done};
+ghost use Rattle.ledger.specs.Rows.{total, movedOn, charged};
+ghost use Rattle.ledger.specs.Calls.{mostAllowance, lent, lentInRange, setUpReply, moveReply, grantOf, askReply};
+ghost use Rattle.ledger.specs.Replies.{setUpTold, moveTold, grantTold, ledgerIn, rowIn, codeIn, linkIn};
+use rates::Rate;
+use rates::TOP_CODE;
+use rates::rate_of;
+use rates::round_down;
+use refusals::Refusal;
+use refusals::in_range;
+
+pub const MOST_SLOTS: usize = 64;
+
+// The greatest allowance, in bits a second.
+pub const MOST_ALLOWANCE: u64 = 1_099_511_627_776;
+
+// The ledger's record beside its row: the tick that the row stands at, and the most bits a second
+// that approvals of the last ticks, one for each slot, may come to together.
+pub struct Ledger {
+    pub tick: u64,
+    pub allowance: u64,
+}
+
+pub enum SetUp {
+    Ready(Ledger),
+    Refused(Refusal),
+}
+
+pub enum Move {
+    Done,
+    Refused(Refusal),
+}
+
+// What moving on answers, and the record afterwards: the one that was given, after a refusal.
+pub struct Moved {
+    pub answer: Move,
+    pub ledger: Ledger,
+}
+
+pub enum Grant {
+    Code(u32),
+    Refused(Refusal),
+}
+
+// What asking answers, and the record afterwards: the one that was given, after a refusal.
+pub struct Asked {
+    pub answer: Grant,
+    pub ledger: Ledger,
+}
+
+// Whether a row's length and an allowance are in their ranges.
+pub fn lent_in_range(slots: usize, allowance: u64) -> bool
+    ensures { λ r. ⌜ r ≡ lentInRange slots allowance ⌝ }
+{
+    if !in_range(1, slots as u64, MOST_SLOTS as u64) {
+        return false;
+    }
+    allowance <= MOST_ALLOWANCE
+}
+
+// The row's total, or limit + 1 where it is above the limit. Slots may hold any numbers, so the
+// sum stops before it could wrap.
+fn total_up_to(row: &[u64], limit: u64) -> u64
+    requires { ⌜ limit ≤ mostAllowance ⌝ }
+    ensures { λ r. ⌜ r ≡ min (total (now (row .entry))) (limit + 1) ⌝ }
+{
+    let mut sum: u64 = 0;
+    let mut i = 0;
+    while i < row.len() {
+        let slot = row[i];
+        if slot > limit - sum {
+            return limit + 1;
+        }
+        sum += slot;
+        i += 1;
+    }
+    sum
+}
+
+// Zeroes every slot.
+fn clear(row: &mut [u64])
+    ensures { λ _. ⌜ now (row .exit) ≡ replicate (length (now (row .entry))) 0 ⌝ }
+{
+    let mut i = 0;
+    while i < row.len() {
+        row[i] = 0;
+        i += 1;
+    }
+}
+
+// Zeroes the slots of the ticks after `old` up to `tick`. Once there are as many ticks as slots
+// these are all slots, so it takes no longer than the row.
+fn clear_passed(row: &mut [u64], old: u64, tick: u64)
+    requires { ⌜ (0 < length (now row)) × (old ≤ tick) ⌝ }
+    ensures { λ _. ⌜ now (row .exit) ≡ movedOn old tick (now (row .entry)) ⌝ }
+{
+    let slots = row.len() as u64;
+    if tick - old >= slots {
+        clear(row);
+        return;
+    }
+    let mut t = old;
+    while t < tick {
+        t += 1;
+        row[(t % slots) as usize] = 0;
+    }
+}
+
+// Adds a rate to the slot of a tick.
+fn charge(row: &mut [u64], tick: u64, rate: u64)
+    requires { ⌜ (0 < length (now row)) × (total (now row) + rate ≤ mostAllowance) ⌝ }
+    ensures { λ _. ⌜ now (row .exit) ≡ charged tick rate (now (row .entry)) ⌝ }
+{
+    let slot = (tick % (row.len() as u64)) as usize;
+    row[slot] = row[slot] + rate;
+}
+
+// The bits a second of a code that is not above the highest.
+fn bits_of(code: u32) -> u64
+    requires { ⌜ code ≤ topCode ⌝ }
+    ensures { λ r. ⌜ r ≡ rateOf code ⌝ }
+{
+    match rate_of(code) {
+        Rate::BitsPerSecond(bits) => bits,
+        Rate::Refused(_) => 0,
+    }
+}
+
+// The greatest code up to `asked` whose rate is at most `left`.
+fn lesser_code(asked: u32, left: u64) -> u32
+    requires { ⌜ asked ≤ topCode ⌝ }
+    ensures { λ r. ⌜ r ≡ greatestUpTo asked left ⌝ }
+{
+    let code = round_down(left);
+    if code > asked {
+        return asked;
+    }
+    code
+}
+
+// Sets a row up: every slot is zeroed, whatever it held, and the ledger starts at `tick`.
+pub fn set_up(row: &mut [u64], tick: u64, allowance: u64) -> SetUp
+    ensures answer { λ r. ⌜ setUpTold r ≡ ledgerIn (setUpReply (now (row .entry)) tick allowance) ⌝ }
+    ensures row { λ _. ⌜ now (row .exit) ≡ leaves (now (row .entry)) (rowIn (setUpReply (now (row .entry)) tick allowance)) ⌝ }
+{
+    if !lent_in_range(row.len(), allowance) {
+        return SetUp::Refused(Refusal::OutOfRange);
+    }
+    clear(row);
+    SetUp::Ready(Ledger { tick, allowance })
+}
+
+// Moves on to a tick that is not before the stored one. The same tick changes nothing.
+pub fn move_on(row: &mut [u64], ledger: Ledger, tick: u64) -> Moved
+    ensures answer { λ r. ⌜ moveTold (r .answer) ≡ done (moveReply (lent (now (row .entry)) ledger) tick) ⌝ }
+    ensures link { λ r. ⌜ lent (now (row .exit)) (r .ledger) ≡ leaves (lent (now (row .entry)) ledger) (moveReply (lent (now (row .entry)) ledger) tick) ⌝ }
+{
+    let allowance = ledger.allowance;
+    if !lent_in_range(row.len(), allowance) {
+        return Moved {
+            answer: Move::Refused(Refusal::OutOfRange),
+            ledger,
+        };
+    }
+    if total_up_to(row, allowance) > allowance {
+        return Moved {
+            answer: Move::Refused(Refusal::OverAllowance),
+            ledger,
+        };
+    }
+    if tick < ledger.tick {
+        return Moved {
+            answer: Move::Refused(Refusal::TimeBackwards),
+            ledger,
+        };
+    }
+    clear_passed(row, ledger.tick, tick);
+    Moved {
+        answer: Move::Done,
+        ledger: Ledger { tick, allowance },
+    }
+}
+
+// Grants the greatest code up to `asked` that the row leaves room for, and adds its rate to the
+// slot of the stored tick.
+fn approve(row: &mut [u64], ledger: Ledger, asked: u32) -> u32
+    requires { ⌜ (0 < length (now row)) × (total (now row) ≤ ledger .allowance) × (ledger .allowance ≤ mostAllowance) × (asked ≤ topCode) ⌝ }
+    ensures code { λ r. ⌜ r ≡ grantOf (lent (now (row .entry)) ledger) asked ⌝ }
+    ensures row { λ _. ⌜ now (row .exit) ≡ charged (ledger .tick) (rateOf (grantOf (lent (now (row .entry)) ledger) asked)) (now (row .entry)) ⌝ }
+{
+    let left = ledger.allowance - total_up_to(row, ledger.allowance);
+    let code = lesser_code(asked, left);
+    charge(row, ledger.tick, bits_of(code));
+    code
+}
+
+// Asks for a code from 1 to 15 at a tick that is not before the stored one: the ledger moves on to
+// the tick, and grants the greatest code up to the one asked that the allowance has room for.
+pub fn ask(row: &mut [u64], ledger: Ledger, tick: u64, code: u32) -> Asked
+    ensures answer { λ r. ⌜ grantTold (r .answer) ≡ codeIn (askReply (lent (now (row .entry)) ledger) tick code) ⌝ }
+    ensures link { λ r. ⌜ lent (now (row .exit)) (r .ledger) ≡ leaves (lent (now (row .entry)) ledger) (linkIn (askReply (lent (now (row .entry)) ledger) tick code)) ⌝ }
+{
+    if !in_range(1, code as u64, TOP_CODE as u64) {
+        return Asked {
+            answer: Grant::Refused(Refusal::OutOfRange),
+            ledger,
+        };
+    }
+    let moved = move_on(row, ledger, tick);
+    let at = moved.ledger;
+    let answer = moved.answer;
+    match answer {
+        Move::Refused(why) => Asked {
+            answer: Grant::Refused(why),
+            ledger: at,
+        },
+        Move::Done => {
+            let granted = approve(row, at, code);
+            Asked {
+                answer: Grant::Code(granted),
+                ledger: at,
+            }
+        }
+    }
+}
