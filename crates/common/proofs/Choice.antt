@@ -34,6 +34,11 @@ failed r t e n = sym e ∙ not-true r n
 pub clash : _≡_ {A = ℕ} 0 1 → ⊥
 clash e = omega arith
 
+-- a choice whose test is true
+pub chosen : {A : Type 0} (t : Bool) (x y : A) → t ≡ true → pick t x y ≡ x
+chosen true x y e = refl
+chosen false x y e = absurd (clash (cc))
+
 -- one number is at most another, or above it
 pub le-or-gt : (a b : ℕ) → (a ≤ b) ⊎ (b < a)
 le-or-gt a b = go (leb a b) refl

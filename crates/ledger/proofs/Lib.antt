@@ -1,2 +1,5 @@
 pub mod RowLaws
 pub mod CallLaws
+pub mod HistoryLaws
+pub mod History
+pub mod Claims

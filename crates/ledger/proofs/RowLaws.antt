@@ -3,12 +3,12 @@ use Prim.Native.Nat.{ℕ, zero, suc, _+_, _-_, _*_, _/_, _%_, _≤_, _<_}
 use mathlib.Core.List.{List, [], _∷_}
 use mathlib.Core.Logic.{⊎-elim}
 use mathlib.Core.Path.{_≡_, refl, sym, ap, subst, _∙_}
-use native.Mathlib.Nat.{div-add-mod', mod-lt, eq-or-lt-of-le, add-mod-right}
+use native.Mathlib.Nat.{div-add-mod', mod-lt, eq-or-lt-of-le, add-mod-right, add-zero}
 use native.Mathlib.Numerals.{add-one}
 use native.Mathlib.Omega.{arith}
 use lib.Arith.{digits-mod}
 use lib.ListN.{length, getD, set, drop, replicate, length-set, length-replicate, getD-replicate}
-use lib.Seq.{drop-cons, getD-set-same, getD-set-other, ext-getD}
+use lib.Seq.{drop-cons, getD-set-same, getD-set-other, set-getD, ext-getD}
 use Rattle.common.proofs.Choice.{le-or-gt}
 use Rattle.ledger.specs.Rows.{total, slotOf, passed, movedOn, charged}
 
@@ -58,7 +58,7 @@ zero-kept (x ∷ row) (suc i) zero e = e
 zero-kept (x ∷ row) (suc i) (suc j) e = zero-kept row i j e
 
 -- the slot of a tick passed is zeroed, and a slot of none of them stays
-passed-slot : (n old j : ℕ) (row : List ℕ) → 0 < length row → 1 ≤ j → j ≤ n → getD (passed n old row) ((old + j) % length row) 0 ≡ 0
+pub passed-slot : (n old j : ℕ) (row : List ℕ) → 0 < length row → 1 ≤ j → j ≤ n → getD (passed n old row) ((old + j) % length row) 0 ≡ 0
 unfolding passed
 passed-slot zero old j row s l h = absurd (omega arith)
 passed-slot (suc n) old j row s l h =
@@ -69,7 +69,7 @@ passed-slot (suc n) old j row s l h =
     (λ (k : j < suc n). zero-kept (passed n old row) _ ((old + j) % length row) (passed-slot n old j row s l (omega arith)))
     (eq-or-lt-of-le h)
 
-other-slot : (n old i : ℕ) (row : List ℕ) → ((j : ℕ) → 1 ≤ j → j ≤ n → (old + j) % length row ≡ i → ⊥) → getD (passed n old row) i 0 ≡ getD row i 0
+pub other-slot : (n old i : ℕ) (row : List ℕ) → ((j : ℕ) → 1 ≤ j → j ≤ n → (old + j) % length row ≡ i → ⊥) → getD (passed n old row) i 0 ≡ getD row i 0
 unfolding passed
 other-slot zero old i row f = refl
 other-slot (suc n) old i row f =
@@ -103,6 +103,15 @@ passed-all n old row h =
     subst (λ (k : ℕ). getD (passed n old row) k 0 ≡ 0) (w .3) (passed-slot n old (w .0) row (omega arith) (w .1) (omega (arith, w .2)))
     ∙ sym (getD-replicate (length row) i 0 0 in-row))
 
+-- more ticks behind those passed
+pub passed-more : (n m old : ℕ) (row : List ℕ) → passed m (old + n) (passed n old row) ≡ passed (n + m) old row
+unfolding passed
+passed-more n zero old row = ap (λ (k : ℕ). passed k old row) {x = n} {y = n + 0} (omega arith)
+passed-more n (suc m) old row =
+    let e : n + suc m ≡ suc (n + m) = omega arith in
+    let f : old + n + suc m ≡ old + suc (n + m) = omega arith in
+    rw (e, f, passed-more n m old row)
+
 pub total-passed : (n old : ℕ) (row : List ℕ) → 0 < length row → total (passed n old row) ≤ total row
 unfolding passed
 total-passed zero old row h = omega arith
@@ -133,3 +142,16 @@ total-charged tick rate row h =
     let slot = slotOf tick row in
     let e = total-set row slot (getD row slot 0 + rate) (slot-lt tick row h) in
     omega arith
+
+-- charging adds to the slot of its tick, and to no other
+pub charged-same : (t rate : ℕ) (row : List ℕ) → 0 < length row → getD (charged t rate row) (t % length row) 0 ≡ getD row (t % length row) 0 + rate
+unfolding charged
+charged-same t rate row h = getD-set-same row (t % length row) _ 0 (mod-lt t h)
+
+pub charged-other : (t rate slot : ℕ) (row : List ℕ) → (slot ≡ t % length row → ⊥) → getD (charged t rate row) slot 0 ≡ getD row slot 0
+unfolding charged
+charged-other t rate slot row other = getD-set-other row (t % length row) slot _ 0 other
+
+pub charged-none : (tick : ℕ) (row : List ℕ) → charged tick 0 row ≡ row
+unfolding charged
+charged-none tick row = ap (λ (a : ℕ). set row (slotOf tick row) a) (add-zero _) ∙ set-getD row (slotOf tick row) 0

@@ -27,13 +27,13 @@ abbrev pub lent : List ℕ → Ledger → Link
 lent row ledger = record { row = row; ledger = ledger }
 
 -- the row's length and the allowance in their ranges
-unfoldable pub lentInRange : ℕ → ℕ → Bool
-lentInRange slots allowance = within 1 slots mostSlots && leb allowance mostAllowance
+unfoldable pub linkInRange : ℕ → ℕ → Bool
+linkInRange slots allowance = within 1 slots mostSlots && leb allowance mostAllowance
 
 -- setting up tests 7 alone; the row is zeroed, and stands at the tick given
 abbrev pub setUpReply : List ℕ → ℕ → ℕ → Reply Link
 setUpReply row tick allowance =
-    pick (lentInRange (length row) allowance)
+    pick (linkInRange (length row) allowance)
     (answer (lent (replicate (length row) 0) (record { tick = tick; allowance = allowance })))
     (refuse 7)
 
@@ -44,7 +44,7 @@ movedTo tick link = lent (movedOn (link .ledger .tick) tick (link .row)) (record
 -- "Ledger calls test 7, 8, 9": 8 for the "row's total, as lent, above A", 9 for a "tick before the stored one"
 abbrev pub moveReply : Link → ℕ → Reply Link
 moveReply link tick =
-    pick (lentInRange (length (link .row)) (link .ledger .allowance))
+    pick (linkInRange (length (link .row)) (link .ledger .allowance))
     (pick (leb (total (link .row)) (link .ledger .allowance))
     (pick (leb (link .ledger .tick) tick)
     (answer (movedTo tick link))

@@ -7,7 +7,7 @@ ghost use lib.ListN.{length, replicate};
 ghost use Rattle.rates.specs.Steps.{topCode, rateOf, greatestUpTo};
 ghost use Rattle.refusals.specs.Reply.{leaves, done};
 ghost use Rattle.ledger.specs.Rows.{total, movedOn, charged};
-ghost use Rattle.ledger.specs.Calls.{mostAllowance, lent, lentInRange, setUpReply, moveReply, grantOf, askReply};
+ghost use Rattle.ledger.specs.Calls.{mostAllowance, lent, linkInRange, setUpReply, moveReply, grantOf, askReply};
 ghost use Rattle.ledger.specs.Replies.{setUpTold, moveTold, grantTold, ledgerIn, rowIn, codeIn, linkIn};
 use rates::Rate;
 use rates::TOP_CODE;
@@ -56,8 +56,8 @@ pub struct Asked {
 }
 
 // Whether a row's length and an allowance are in their ranges.
-pub fn lent_in_range(slots: usize, allowance: u64) -> bool
-    ensures { λ r. ⌜ r ≡ lentInRange slots allowance ⌝ }
+pub fn link_in_range(slots: usize, allowance: u64) -> bool
+    ensures { λ r. ⌜ r ≡ linkInRange slots allowance ⌝ }
 {
     if !in_range(1, slots as u64, MOST_SLOTS as u64) {
         return false;
@@ -134,7 +134,7 @@ fn bits_of(code: u32) -> u64
 }
 
 // The greatest code up to `asked` whose rate is at most `left`.
-fn lesser_code(asked: u32, left: u64) -> u32
+fn greatest_code(asked: u32, left: u64) -> u32
     requires { ⌜ asked ≤ topCode ⌝ }
     ensures { λ r. ⌜ r ≡ greatestUpTo asked left ⌝ }
 {
@@ -150,7 +150,7 @@ pub fn set_up(row: &mut [u64], tick: u64, allowance: u64) -> SetUp
     ensures answer { λ r. ⌜ setUpTold r ≡ ledgerIn (setUpReply (now (row .entry)) tick allowance) ⌝ }
     ensures row { λ _. ⌜ now (row .exit) ≡ leaves (now (row .entry)) (rowIn (setUpReply (now (row .entry)) tick allowance)) ⌝ }
 {
-    if !lent_in_range(row.len(), allowance) {
+    if !link_in_range(row.len(), allowance) {
         return SetUp::Refused(Refusal::OutOfRange);
     }
     clear(row);
@@ -163,7 +163,7 @@ pub fn move_on(row: &mut [u64], ledger: Ledger, tick: u64) -> Moved
     ensures link { λ r. ⌜ lent (now (row .exit)) (r .ledger) ≡ leaves (lent (now (row .entry)) ledger) (moveReply (lent (now (row .entry)) ledger) tick) ⌝ }
 {
     let allowance = ledger.allowance;
-    if !lent_in_range(row.len(), allowance) {
+    if !link_in_range(row.len(), allowance) {
         return Moved {
             answer: Move::Refused(Refusal::OutOfRange),
             ledger,
@@ -196,7 +196,7 @@ fn approve(row: &mut [u64], ledger: Ledger, asked: u32) -> u32
     ensures row { λ _. ⌜ now (row .exit) ≡ charged (ledger .tick) (rateOf (grantOf (lent (now (row .entry)) ledger) asked)) (now (row .entry)) ⌝ }
 {
     let left = ledger.allowance - total_up_to(row, ledger.allowance);
-    let code = lesser_code(asked, left);
+    let code = greatest_code(asked, left);
     charge(row, ledger.tick, bits_of(code));
     code
 }

@@ -11,12 +11,12 @@ use Rattle.ledger.proofs.approve.Statement.{statement}
 use Rattle.ledger.proofs.approve.Tie as tie
 
 -- the code that is granted
-code-is : (c : tie.After-lesser-code) → let a = c .before .before .before .before .before .args in c .lesser-code .result ≡ grantOf (lent (a .row .now) (a .ledger)) (a .asked)
+code-is : (c : tie.After-greatest-code) → let a = c .before .before .before .before .before .args in c .greatest-code .result ≡ grantOf (lent (a .row .now) (a .ledger)) (a .asked)
 unfolding grantOf
 code-is c =
     let a = c .before .before .before .before .before .args in
     let left : a .ledger .allowance - c .before .before .total-up-to .result ≡ a .ledger .allowance - total (a .row .now) = omega (arith, c .before .before .total-up-to .ensures) in
-    c .lesser-code .ensures ∙ ap (greatestUpTo (a .asked)) left
+    c .greatest-code .ensures ∙ ap (greatestUpTo (a .asked)) left
 
 total-up-to-requires : tie.Need-total-up-to-requires
 total-up-to-requires c κs = search needs
@@ -24,8 +24,8 @@ total-up-to-requires c κs = search needs
 sub-left : tie.Need-sub-left
 sub-left c = search needs
 
-lesser-code-requires : tie.Need-lesser-code-requires
-lesser-code-requires c κs = search needs
+greatest-code-requires : tie.Need-greatest-code-requires
+greatest-code-requires c κs = search needs
 
 bits-of-requires : tie.Need-bits-of-requires
 bits-of-requires c κs =
@@ -58,7 +58,7 @@ approve-spec =
     (tie.spec
     total-up-to-requires
     sub-left
-    lesser-code-requires
+    greatest-code-requires
     bits-of-requires
     charge-requires
     same-length

@@ -57,7 +57,7 @@ approve-requires c κs =
     let link = lent (a .row .now) (a .ledger) in
     let m = move-answered link (a .tick) _ (moved (c .before)) in
     let s = subst Sound (sym (m .2)) (moved-sound link (a .tick) (m .0)) in
-    (s .ranges .some, s .below, s .ranges .small, within-high 1 (a .code) topCode (code-fits (c .before .before .before .before .before .before .before .before)))
+    (s .ranges .slots-low, s .below, s .ranges .allowance-high, within-high 1 (a .code) topCode (code-fits (c .before .before .before .before .before .before .before .before)))
 
 same-length : tie.Need-same-length
 same-length c = search needs

@@ -8,34 +8,35 @@ use lib.ListN.{length}
 use Rattle.common.proofs.Choice.{held, failed}
 use Rattle.refusals.specs.Reply.{leaves, done}
 use Rattle.ledger.specs.Rows.{total}
-use Rattle.ledger.specs.Calls.{lent, lentInRange}
-use Rattle.ledger.proofs.CallLaws.{Ranged, ranged, Sound, move-seven, move-eight, move-nine, move-done}
+use Rattle.ledger.specs.Calls.{lent, linkInRange}
+use Rattle.ledger.specs.Claims.{InRange}
+use Rattle.ledger.proofs.CallLaws.{ranged, Sound, move-seven, move-eight, move-nine, move-done}
 use borrow.Author.Needs.{needs}
 use Rattle.ledger.proofs.move_on.Statement.{statement}
 use Rattle.ledger.proofs.move_on.Tie as tie
 
 -- what each test says once it is passed
-in-range : (c : tie.Else1) → let a = c .before .before .before .args in lentInRange (length (a .row .now)) (a .ledger .allowance) ≡ true
-in-range c = held _ _ (c .before .lent-in-range .ensures) (c .if1 .left)
+in-range : (c : tie.Else1) → let a = c .before .before .before .args in linkInRange (length (a .row .now)) (a .ledger .allowance) ≡ true
+in-range c = held _ _ (c .before .link-in-range .ensures) (c .if1 .left)
 
-fits : (c : tie.Else1) → let a = c .before .before .before .args in Ranged (length (a .row .now)) (a .ledger .allowance)
+fits : (c : tie.Else1) → let a = c .before .before .before .args in InRange (length (a .row .now)) (a .ledger .allowance)
 fits c = ranged _ _ (in-range c)
 
 sound : (c : tie.Else2) → let a = c .before .before .before .before .before .before .args in Sound (lent (a .row .now) (a .ledger))
 sound c = record { ranges = fits (c .before .before .before); below = omega (arith, c .before .total-up-to .ensures) }
 
-lent-in-range-requires : tie.Need-lent-in-range-requires
-lent-in-range-requires c κs = search needs
+link-in-range-requires : tie.Need-link-in-range-requires
+link-in-range-requires c κs = search needs
 
 returns : tie.Need-returns
 returns c =
     let a = c .before .before .before .args in
     let link = lent (a .row .now) (a .ledger) in
-    let e = move-seven link (a .tick) (failed _ _ (c .before .lent-in-range .ensures) (c .if1 .taken)) in
+    let e = move-seven link (a .tick) (failed _ _ (c .before .link-in-range .ensures) (c .if1 .taken)) in
     (sym (ap done e), sym (ap (leaves link) e))
 
 total-up-to-requires : tie.Need-total-up-to-requires
-total-up-to-requires c κs = fits (c .before) .small
+total-up-to-requires c κs = fits (c .before) .allowance-high
 
 same-length : tie.Need-same-length
 same-length c = search needs
@@ -59,7 +60,7 @@ returns-3 c =
     (sym (ap done e), sym (ap (leaves link) e))
 
 clear-passed-requires : tie.Need-clear-passed-requires
-clear-passed-requires c κs = (sound (c .before .before .before) .ranges .some, c .before .if3 .left)
+clear-passed-requires c κs = (sound (c .before .before .before) .ranges .slots-low, c .before .if3 .left)
 
 same-length-3 : tie.Need-same-length-3
 same-length-3 c = search needs
@@ -77,7 +78,7 @@ pub move-on-spec : {M : Type 1} → statement M
 move-on-spec =
     tie.close
     (tie.spec
-    lent-in-range-requires
+    link-in-range-requires
     returns
     total-up-to-requires
     same-length

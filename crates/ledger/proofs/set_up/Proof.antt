@@ -1,18 +1,18 @@
 -- `ledger::set_up` meets its contract: either nothing is written, or every slot is zeroed. Assumes nothing.
 use lib.ListN.{length}
 use Rattle.common.proofs.Choice.{held, failed}
-use Rattle.ledger.specs.Calls.{lentInRange}
+use Rattle.ledger.specs.Calls.{linkInRange}
 use borrow.Author.Needs.{needs}
 use Rattle.ledger.proofs.set_up.Statement.{statement}
 use Rattle.ledger.proofs.set_up.Tie as tie
 
-lent-in-range-requires : tie.Need-lent-in-range-requires
-lent-in-range-requires c κs = search needs
+link-in-range-requires : tie.Need-link-in-range-requires
+link-in-range-requires c κs = search needs
 
 returns : tie.Need-returns
 returns c =
     let a = c .before .before .before .args in
-    let no = failed _ (lentInRange (length (a .row .now)) (a .allowance)) (c .before .lent-in-range .ensures) (c .if1 .taken) in
+    let no = failed _ (linkInRange (length (a .row .now)) (a .allowance)) (c .before .link-in-range .ensures) (c .if1 .taken) in
     (simp no, simp no)
 
 clear-requires : tie.Need-clear-requires
@@ -24,10 +24,10 @@ same-length c = search needs
 returns-2 : tie.Need-returns-2
 returns-2 c =
     let a = c .before .before .before .before .before .before .before .args in
-    let yes = held _ (lentInRange (length (a .row .now)) (a .allowance)) (c .before .before .before .before .before .lent-in-range .ensures) (c .before .before .before .before .if1 .left) in
+    let yes = held _ (linkInRange (length (a .row .now)) (a .allowance)) (c .before .before .before .before .before .link-in-range .ensures) (c .before .before .before .before .if1 .left) in
     (simp yes, simp yes (c .before .before .clear .ensures))
 
 pub set-up-spec : {M : Type 1} → statement M
 set-up-spec =
     tie.close
-    (tie.spec lent-in-range-requires returns clear-requires same-length returns-2)
+    (tie.spec link-in-range-requires returns clear-requires same-length returns-2)
