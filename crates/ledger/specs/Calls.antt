@@ -1,5 +1,5 @@
--- The calls on a ledger (document 01, "Ledger" and "Numbers and refusals"): setting up, moving on, asking. A ledger is document 01's account of what a link approved in the last
--- ticks. Assumes nothing.
+-- The calls on a ledger (document 01, "Ledger" and "Numbers and refusals"): setting up, moving on, asking. A ledger is document 01's account of what a router approved on a link in
+-- the last ticks. Assumes nothing.
 use Prim.Native.Nat.{ℕ, _-_, _^_}
 use mathlib.Core.Bool.{Bool, _&&_}
 use mathlib.Core.List.{List}

@@ -1,6 +1,8 @@
-// The ledger of a link: what a router approved on the link in the last ticks, so that approvals
-// together never pass the link's allowance. The link lends a row of slots, one for each of the
-// last ticks, and the ledger's record with the stored tick and the allowance.
+// The ledger of a link, document 01's account of what a router approved on the link. The link lends
+// a row of slots and the ledger's record, with the stored tick and the allowance. A tick is a count
+// of the caller's clock; the slot of a tick is the tick modulo the row's length, and holds the sum
+// of the rates approved at that tick. So with S slots the row's total is what was approved at the
+// last S ticks, and that never passes the allowance.
 ghost use mathlib.Core.Path.{_≡_};
 ghost use Prim.Native.Nat.{_+_, _≤_, _<_, min};
 ghost use lib.ListN.{length, replicate};
@@ -21,8 +23,8 @@ pub const MOST_SLOTS: usize = 64;
 // The greatest allowance, in bits a second.
 pub const MOST_ALLOWANCE: u64 = 1_099_511_627_776;
 
-// The ledger's record beside its row: the tick that the row stands at, and the most bits a second
-// that approvals of the last ticks, one for each slot, may come to together.
+// The ledger's record beside its row: the tick of the last call that was not refused, and the most
+// bits a second that the approvals of the last S ticks may add up to, S the row's length.
 pub struct Ledger {
     pub tick: u64,
     pub allowance: u64,
@@ -45,6 +47,7 @@ pub struct Moved {
 }
 
 pub enum Grant {
+    // The code granted: 0 where there is no room for any. The ledger has moved on all the same.
     Code(u32),
     Refused(Refusal),
 }
@@ -96,7 +99,7 @@ fn clear(row: &mut [u64])
 }
 
 // Zeroes the slots of the ticks after `old` up to `tick`. Once there are as many ticks as slots
-// these are all slots, so it takes no longer than the row.
+// these are all slots, so no slot is stored to twice.
 fn clear_passed(row: &mut [u64], old: u64, tick: u64)
     requires { ⌜ (0 < length (now row)) × (old ≤ tick) ⌝ }
     ensures { λ _. ⌜ now (row .exit) ≡ movedOn old tick (now (row .entry)) ⌝ }
@@ -122,7 +125,7 @@ fn charge(row: &mut [u64], tick: u64, rate: u64)
     row[slot] = row[slot] + rate;
 }
 
-// The bits a second of a code that is not above the highest.
+// The bits a second of a code that is not above the highest, which is never refused.
 fn bits_of(code: u32) -> u64
     requires { ⌜ code ≤ topCode ⌝ }
     ensures { λ r. ⌜ r ≡ rateOf code ⌝ }
@@ -157,7 +160,9 @@ pub fn set_up(row: &mut [u64], tick: u64, allowance: u64) -> SetUp
     SetUp::Ready(Ledger { tick, allowance })
 }
 
-// Moves on to a tick that is not before the stored one. The same tick changes nothing.
+// Moves on to a tick: zeroes the slots of the ticks after the stored one up to it. The same tick
+// changes nothing, and a tick before the stored one is refused, as is a row whose total is above
+// the allowance.
 pub fn move_on(row: &mut [u64], ledger: Ledger, tick: u64) -> Moved
     ensures answer { λ r. ⌜ moveTold (r .answer) ≡ done (moveReply (lent (now (row .entry)) ledger) tick) ⌝ }
     ensures link { λ r. ⌜ lent (now (row .exit)) (r .ledger) ≡ leaves (lent (now (row .entry)) ledger) (moveReply (lent (now (row .entry)) ledger) tick) ⌝ }
@@ -201,8 +206,8 @@ fn approve(row: &mut [u64], ledger: Ledger, asked: u32) -> u32
     code
 }
 
-// Asks for a code from 1 to 15 at a tick that is not before the stored one: the ledger moves on to
-// the tick, and grants the greatest code up to the one asked that the allowance has room for.
+// Asks for a code from 1 to 15 at a tick: the ledger moves on to the tick, or is refused, and then
+// grants the greatest code up to the one asked that the allowance has room for.
 pub fn ask(row: &mut [u64], ledger: Ledger, tick: u64, code: u32) -> Asked
     ensures answer { λ r. ⌜ grantTold (r .answer) ≡ codeIn (askReply (lent (now (row .entry)) ledger) tick code) ⌝ }
     ensures link { λ r. ⌜ lent (now (row .exit)) (r .ledger) ≡ leaves (lent (now (row .entry)) ledger) (linkIn (askReply (lent (now (row .entry)) ledger) tick code)) ⌝ }
