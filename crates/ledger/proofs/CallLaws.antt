@@ -2,7 +2,8 @@
 use Prim.Native.Nat.{ℕ, _-_, _≤_, _<_}
 use mathlib.Core.Bool.{true, false}
 use mathlib.Core.List.{List}
-use mathlib.Core.Path.{_≡_, sym, ap, ap₂, _∙_}
+use mathlib.Core.Path.{_≡_, refl, sym, ap, ap₂, _∙_}
+use native.Mathlib.Nat.{le-trans}
 use native.Mathlib.Omega.{arith}
 use lib.Dec.{leb}
 use lib.ListN.{length, replicate, length-replicate}
@@ -49,12 +50,17 @@ set-up-sound row tick allowance r =
     let none = total-zeros (length row) in
     record { ranges = record { slots-low = omega arith; slots-high = omega arith; allowance-high = omega arith }; below = omega arith }
 
+-- a link with as long a row and the same allowance, and a total within it
+pub still-sound : (link next : Link) → Sound link → length (next .row) ≡ length (link .row) → next .ledger .allowance ≡ link .ledger .allowance
+    → total (next .row) ≤ next .ledger .allowance → Sound next
+still-sound link next s long same most =
+    let r = s .ranges in
+    record { ranges = record { slots-low = omega arith; slots-high = omega arith; allowance-high = omega arith }; below = most }
+
 pub moved-sound : (link : Link) (tick : ℕ) → Sound link → Sound (movedTo tick link)
 moved-sound link tick s =
-    let r = s .ranges in
-    let long = length-moved (link .ledger .tick) tick (link .row) in
-    let less = total-moved (link .ledger .tick) tick (link .row) (r .slots-low) in
-    record { ranges = record { slots-low = omega arith; slots-high = omega arith; allowance-high = omega arith }; below = omega (arith, s .below) }
+    still-sound link (movedTo tick link) s (length-moved (link .ledger .tick) tick (link .row)) refl
+    (le-trans (total-moved (link .ledger .tick) tick (link .row) (s .ranges .slots-low)) (s .below))
 
 -- what is granted has room
 pub grant-rule : (link : Link) (asked : ℕ) → Greatest asked (link .ledger .allowance - total (link .row)) (grantOf link asked)
@@ -63,12 +69,11 @@ grant-rule link asked = greatest-rule asked (link .ledger .allowance - total (li
 
 pub granted-sound : (link : Link) (asked : ℕ) → Sound link → Sound (granted asked link .link)
 granted-sound link asked s =
-    let r = s .ranges in
-    let code = grantOf link asked in
-    let long = length-charged (link .ledger .tick) (rateOf code) (link .row) in
-    let more = total-charged (link .ledger .tick) (rateOf code) (link .row) (r .slots-low) in
+    let rate = rateOf (grantOf link asked) in
+    let more = total-charged (link .ledger .tick) rate (link .row) (s .ranges .slots-low) in
     let fits = grant-rule link asked .fits in
-    record { ranges = record { slots-low = omega arith; slots-high = omega arith; allowance-high = omega arith }; below = omega (arith, s .below) }
+    let below = s .below in
+    still-sound link (granted asked link .link) s (length-charged (link .ledger .tick) rate (link .row)) refl (omega arith)
 
 -- ---- setting up
 

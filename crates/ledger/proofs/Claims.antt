@@ -14,6 +14,7 @@ use Rattle.common.proofs.Choice.{chosen, within-low, within-high, in-within, le
 use Rattle.refusals.specs.Reply.{Reply, answer, refuse, leaves, andThen}
 use Rattle.rates.specs.Steps.{topCode, rateOf, greatestUpTo}
 use Rattle.rates.proofs.StepLaws.{greatest-only}
+use Rattle.ledger.specs.declared.Ledger.{Ledger}
 use Rattle.ledger.specs.Rows.{passed, movedOn, charged}
 use Rattle.ledger.specs.Calls.{Link, lent, linkInRange, setUpReply, movedTo, moveReply, grantOf, Granted, granted, askReply}
 use Rattle.ledger.specs.Replies.{rowIn, codeIn, linkIn}
@@ -200,6 +201,11 @@ added made slots allowance asked past in-range ranges before then =
     let sum = rw (in-last slots t t (le-refl t) (omega (arith, ranges .slots-low))) at (afterwards .total-is) in
     omega (arith, sum, before .total-is, total-charged (link .ledger .tick) (made link code) (link .row) (sound .ranges .slots-low))
 
+-- the record of a row set up at tick 0
+abbrev at-0 : ℕ → Ledger
+at-0 allowance = record { tick = 0; allowance = allowance }
+
+-- of each other ledger: calls after which a total, a sum or a tick would have to be another number than it is
 pub shutOut : ShutOut
 unfolding linkInRange within movedOn passed charged inLast grantOf greatestUpTo rateOf
 shutOut = record {
@@ -209,30 +215,33 @@ shutOut = record {
       other (added made (length row) allowance asked past (in-within 1 asked topCode l h) (set-up-link row tick allowance ledger e .0) (claim row tick allowance ledger e list)
       (subst (Accounted (length row) allowance) (after-one (ownSum made) _ list (histories.asking (past .tick) asked)) (claim row tick allowance ledger e (list ++ (histories.asking (past .tick) asked ∷ [])))));
   adds-nothing = λ claim.
-      let a = claim (0 ∷ []) 0 80000 (record { tick = 0; allowance = 80000 }) refl (histories.asking 0 1 ∷ []) in
+      let a = claim (0 ∷ []) 0 80000 (at-0 80000) refl (histories.asking 0 1 ∷ []) in
       let e : _≡_ {A = ℕ} 0 80000 = a .total-is in omega arith;
   forgets-moving = λ claim.
-      let a = claim (0 ∷ 0 ∷ []) 0 80000 (record { tick = 0; allowance = 80000 }) refl (histories.asking 0 1 ∷ histories.moving 1 ∷ []) in
+      let a = claim (0 ∷ 0 ∷ []) 0 80000 (at-0 80000) refl (histories.asking 0 1 ∷ histories.moving 1 ∷ []) in
       let e : _≡_ {A = ℕ} 0 80000 = a .total-is in omega arith;
   forgets-asking = λ claim.
-      let a = claim (0 ∷ 0 ∷ []) 0 80000 (record { tick = 0; allowance = 80000 }) refl (histories.asking 0 1 ∷ histories.asking 1 1 ∷ []) in
+      let a = claim (0 ∷ 0 ∷ []) 0 80000 (at-0 80000) refl (histories.asking 0 1 ∷ histories.asking 1 1 ∷ []) in
       let e : 160000 ≤ 80000 = a .last-most 1 in omega arith;
   forgets-both = λ claim.
-      let a = claim (0 ∷ 0 ∷ []) 0 80000 (record { tick = 0; allowance = 80000 }) refl (histories.asking 0 1 ∷ histories.asking 1 1 ∷ []) in
+      let a = claim (0 ∷ 0 ∷ []) 0 80000 (at-0 80000) refl (histories.asking 0 1 ∷ histories.asking 1 1 ∷ []) in
       let e : 160000 ≤ 80000 = a .last-most 1 in omega arith;
+  zeroes-present = λ claim.
+      let a = claim (0 ∷ []) 0 80000 (at-0 80000) refl (histories.asking 0 1 ∷ histories.moving 0 ∷ []) in
+      let e : _≡_ {A = ℕ} 0 80000 = a .total-is in omega arith;
   keeps-all = λ claim.
-      let a = claim (0 ∷ []) 0 80000 (record { tick = 0; allowance = 80000 }) refl (histories.asking 0 1 ∷ histories.moving 1 ∷ []) in
+      let a = claim (0 ∷ []) 0 80000 (at-0 80000) refl (histories.asking 0 1 ∷ histories.moving 1 ∷ []) in
       let e : _≡_ {A = ℕ} 80000 0 = a .total-is in omega arith;
   zeroes-new = λ claim.
-      let a = claim (0 ∷ 0 ∷ []) 0 80000 (record { tick = 0; allowance = 80000 }) refl (histories.asking 0 1 ∷ histories.moving 3 ∷ []) in
+      let a = claim (0 ∷ 0 ∷ []) 0 80000 (at-0 80000) refl (histories.asking 0 1 ∷ histories.moving 3 ∷ []) in
       let e : _≡_ {A = ℕ} 80000 0 = a .total-is in omega arith;
   grants-all = λ claim.
-      let a = claim (0 ∷ []) 0 0 (record { tick = 0; allowance = 0 }) refl (histories.asking 0 1 ∷ []) in
+      let a = claim (0 ∷ []) 0 0 (at-0 0) refl (histories.asking 0 1 ∷ []) in
       let e : 80000 ≤ 0 = a .total-most in omega arith;
   stays-behind = λ claim.
-      let a = claim (0 ∷ []) 0 0 (record { tick = 0; allowance = 0 }) refl (histories.asking 1 1 ∷ []) in
+      let a = claim (0 ∷ []) 0 0 (at-0 0) refl (histories.asking 1 1 ∷ []) in
       let e : _≡_ {A = ℕ} 0 1 = a .tick-is in omega arith;
   moves-anyway = λ claim.
-      let a = claim (0 ∷ []) 0 0 (record { tick = 0; allowance = 0 }) refl (histories.asking 1 0 ∷ []) in
+      let a = claim (0 ∷ []) 0 0 (at-0 0) refl (histories.asking 1 0 ∷ []) in
       let e : _≡_ {A = ℕ} 1 0 = a .tick-is in omega arith;
 }

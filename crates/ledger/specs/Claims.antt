@@ -152,6 +152,11 @@ abbrev pub forgetting : Link → ℕ → Reply Link
 forgetting link tick =
     andThen (moveReply link tick) (λ moved. answer (lent (pick (ltb (link .ledger .tick) tick) (cleared (link .ledger .tick) (moved .row)) (moved .row)) (moved .ledger)))
 
+-- moving on that zeroes the present slot when the tick stays
+abbrev pub zeroingPresent : Link → ℕ → Reply Link
+zeroingPresent link tick =
+    andThen (moveReply link tick) (λ moved. answer (lent (pick (eqb (link .ledger .tick) tick) (cleared tick (moved .row)) (moved .row)) (moved .ledger)))
+
 -- moving on that zeroes nothing, and that zeroes the new tick's slot alone
 abbrev pub keepingAll : Link → ℕ → Reply Link
 keepingAll link tick = andThen (moveReply link tick) (λ moved. answer (lent (link .row) (moved .ledger)))
@@ -184,6 +189,7 @@ pub record ShutOut : Type 0 where
   pub forgets-moving : History (ledgerBy forgetting moveReply granted) → ⊥
   pub forgets-asking : History (ledgerBy moveReply forgetting granted) → ⊥
   pub forgets-both : History (ledgerBy forgetting forgetting granted) → ⊥
+  pub zeroes-present : History (ledgerBy zeroingPresent zeroingPresent granted) → ⊥
   pub keeps-all : History (ledgerBy keepingAll keepingAll granted) → ⊥
   pub zeroes-new : History (ledgerBy zeroingNew zeroingNew granted) → ⊥
   pub grants-all : History (ledgerBy moveReply moveReply grantingAll) → ⊥

@@ -20,7 +20,7 @@ use refusals::in_range;
 
 pub const MOST_SLOTS: usize = 64;
 
-// The greatest allowance, in bits a second.
+// The greatest allowance, in bits a second: 2^40.
 pub const MOST_ALLOWANCE: u64 = 1_099_511_627_776;
 
 // The ledger's record beside its row: the tick of the last call that was not refused, and the most
