@@ -1,3 +1,4 @@
 pub mod Choice
 pub mod Digits
 pub mod Lists
+pub mod Remainders

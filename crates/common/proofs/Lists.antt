@@ -6,7 +6,7 @@ use mathlib.Core.Path.{_≡_, refl, ap, ap₂, sym, _∙_}
 use native.Mathlib.Nat.{le-refl, sub-zero, zero-sub, suc-sub-suc}
 use native.Mathlib.Omega.{arith}
 use lib.Dec.{lit<}
-use lib.ListN.{length, getD, set, take, drop, length-append, length-drop, take-append-drop, drop-of-length-le}
+use lib.ListN.{length, getD, set, take, drop, replicate, length-append, length-drop, take-append-drop, drop-of-length-le}
 use lib.Seq.{set-comm, take-nil, take-all, take-add, take-set-lt, drop-cons, drop-at, drop-set-add, getD-drop, getD-set-other, set-getD, length-take-le, take-append-seam, drop-append-add, sets, sets-eq}
 use Rattle.common.specs.Lists.{Bytes}
 
@@ -33,6 +33,27 @@ drop-take (suc i) (suc k) (x ∷ l) = drop-take i k l ∙ ap (λ (n : ℕ). take
 -- all that is left of a list from a place on
 pub take-rest : (i : ℕ) (l : List ℕ) → take (length l - i) (drop i l) ≡ drop i l
 take-rest i l = take-all (length l - i) (drop i l) (rw (length-drop i l) (le-refl (length l - i)))
+
+-- ---- zeros
+
+-- a list of zeros holds 0 at every place and behind it, and stays the same when a 0 is stored
+pub zeros-hold : (n i : ℕ) → _≡_ {A = ℕ} (getD (replicate n 0) i 0) 0
+zeros-hold zero i = refl
+zeros-hold (suc n) zero = refl
+zeros-hold (suc n) (suc i) = zeros-hold n i
+
+pub zeros-stay : (n i : ℕ) → set {A = ℕ} (replicate n 0) i 0 ≡ replicate n 0
+zeros-stay zero i = refl
+zeros-stay (suc n) zero = refl
+zeros-stay (suc n) (suc i) = ap (λ (l : List ℕ). 0 ∷ l) (zeros-stay n i)
+
+-- a 0 that is stored keeps every 0 of any list
+pub zero-kept : (l : List ℕ) (i j : ℕ) → getD l j 0 ≡ 0 → getD (set l i 0) j 0 ≡ 0
+zero-kept [] i j e = e
+zero-kept (x ∷ l) zero zero e = refl
+zero-kept (x ∷ l) zero (suc j) e = e
+zero-kept (x ∷ l) (suc i) zero e = e
+zero-kept (x ∷ l) (suc i) (suc j) e = zero-kept l i j e
 
 -- ---- a run of stores
 

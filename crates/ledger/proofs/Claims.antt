@@ -1,6 +1,6 @@
 -- The claims of specs/Claims.antt, from the laws of rows and calls; and ledgers that the history theorem shuts out, each by a short run that it would have to account for.
 -- Assumes nothing.
-use Prim.Native.Nat.{ℕ, _+_, _-_, _%_, _≤_, _<_}
+use Prim.Native.Nat.{ℕ, _+_, _-_, _%_, _≤_}
 use mathlib.Core.Bool.{Bool, true, false}
 use mathlib.Core.List.{List, [], _∷_, _++_}
 use mathlib.Core.Logic.{⊎-elim}
@@ -8,9 +8,10 @@ use mathlib.Core.Path.{_≡_, refl, sym, ap, subst, _∙_}
 use native.Mathlib.Nat.{le-refl}
 use native.Mathlib.Omega.{arith}
 use borrow.Author.Tests.{eq-eqb, ne-eqb}
-use lib.ListN.{length, getD, replicate, length-replicate, getD-replicate, List·getD-eq-default}
+use lib.ListN.{length, getD, length-replicate}
 use Rattle.common.specs.Choice.{pick, within}
-use Rattle.common.proofs.Choice.{chosen, within-low, within-high, in-within, le-or-gt}
+use Rattle.common.proofs.Choice.{chosen, within-low, within-high, in-within}
+use Rattle.common.proofs.Lists.{zeros-hold}
 use Rattle.refusals.specs.Reply.{Reply, answer, refuse, leaves, andThen}
 use Rattle.rates.specs.Steps.{topCode, rateOf, greatestUpTo}
 use Rattle.rates.proofs.StepLaws.{greatest-only}
@@ -110,12 +111,6 @@ testing = record {
 
 -- ---- what an accepted call answers and leaves
 
-all-zeros : (n i : ℕ) → _≡_ {A = ℕ} (getD (replicate n 0) i 0) 0
-all-zeros n i = ⊎-elim
-    (λ (out : n ≤ i). List·getD-eq-default {A = ℕ} (replicate n 0) 0 {n = i} (let l = length-replicate {A = ℕ} n 0 in omega arith))
-    (λ (in-row : i < n). getD-replicate n i 0 0 in-row)
-    (le-or-gt n i)
-
 grant-facts : (moved : Link) (asked : ℕ) → Sound moved → Grants moved (moved .ledger .tick) asked (granted asked moved)
 unfolding rateOf
 grant-facts moved asked s =
@@ -135,7 +130,7 @@ pub accepting : Accepting
 accepting = record {
   set-up = λ row tick allowance link e.
       subst (IsSetUp row tick allowance) (sym (set-up-answered row tick allowance link e .1))
-      (record { zeros = all-zeros (length row); long = length-replicate (length row) 0; tick-is = refl; allowance-is = refl });
+      (record { zeros = zeros-hold (length row); long = length-replicate (length row) 0; tick-is = refl; allowance-is = refl });
   move = λ link tick next e.
       subst (Moves link tick) (sym (move-answered link tick next e .2)) (record { row-is = refl; tick-is = refl; allowance-is = refl });
   move-same = λ link next e. move-answered link (link .ledger .tick) next e .2 ∙ moved-same link;

@@ -1,11 +1,11 @@
 -- Laws of a link's history. The row that the approvals of the last ticks make is written down from the approvals alone; moving on and granting take it from tick to tick, and its
 -- total and its slots are what was approved. Assumes nothing.
-use Prim.Native.Nat.{ℕ, zero, suc, _+_, _-_, _/_, _%_, _≤_, _<_}
+use Prim.Native.Nat.{ℕ, zero, suc, _+_, _-_, _%_, _≤_, _<_}
 use mathlib.Core.Bool.{Bool, true, false}
 use mathlib.Core.List.{List, [], _∷_}
 use mathlib.Core.Logic.{⊎-elim}
-use mathlib.Core.Path.{_≡_, refl, sym, ap, subst, _∙_}
-use native.Mathlib.Nat.{le-refl, le-trans, div-add-mod', mul-le-mul-right, mod-lt, mod-eq-of-lt, add-mod-right, eq-or-lt-of-le}
+use mathlib.Core.Path.{_≡_, sym, ap, subst, _∙_}
+use native.Mathlib.Nat.{le-refl, le-trans, mod-lt, mod-eq-of-lt, add-mod-right, eq-or-lt-of-le}
 use native.Mathlib.Omega.{arith}
 use lib.Dec.{eqb}
 use lib.ListN.{length, getD, set, replicate, length-set, length-replicate, getD-replicate}
@@ -13,6 +13,8 @@ use lib.Seq.{set-set, set-comm, getD-set-other}
 use borrow.Author.Tests.{lt-ltb, le-ltb, le-leb, lt-leb, ne-eqb, eqb-true, eqb-false}
 use Rattle.common.specs.Choice.{pick}
 use Rattle.common.proofs.Choice.{by-test, le-or-gt}
+use Rattle.common.proofs.Lists.{zeros-stay}
+use Rattle.common.proofs.Remainders.{apart}
 use Rattle.rates.specs.Steps.{rateOf}
 use Rattle.ledger.specs.Rows.{total, cleared, passed, movedOn, charged}
 use Rattle.ledger.specs.History.{Approval, approvedAt, inLast, approvedLast}
@@ -31,14 +33,6 @@ gone slots now t h = let l : t ≤ now = omega arith in simp (le-leb t now l, le
 pub to-come : (slots now t : ℕ) → now < t → inLast slots now t ≡ false
 unfolding inLast
 to-come slots now t h = simp (lt-leb t now h)
-
--- two ticks less than n apart have different slots
-apart : (n t u : ℕ) → t < u → u < t + n → t % n ≡ u % n → ⊥
-apart n t u a b e =
-    ⊎-elim
-    (λ (p : u / n ≤ t / n). omega (arith, mul-le-mul-right n p, div-add-mod' t n, div-add-mod' u n))
-    (λ (p : t / n < u / n). omega (arith, mul-le-mul-right n p, div-add-mod' t n, div-add-mod' u n))
-    (le-or-gt (u / n) (t / n))
 
 -- ---- zeroing and charging
 
@@ -78,14 +72,9 @@ length-rowAt slots now (a ∷ rest) =
     let ih = length-rowAt slots now rest in
     by-test (λ (l : List ℕ). length l ≡ slots) (inLast slots now (a .tick)) (λ _. length-charged (a .tick) (rateOf (a .code)) (rowAt slots now rest) ∙ ih) (λ _. ih)
 
-zeros-cleared : (slots i : ℕ) → set {A = ℕ} (replicate slots 0) i 0 ≡ replicate slots 0
-zeros-cleared zero i = refl
-zeros-cleared (suc slots) zero = refl
-zeros-cleared (suc slots) (suc i) = ap (λ (l : List ℕ). 0 ∷ l) (zeros-cleared slots i)
-
 -- one tick on: its slot is zeroed, and with it what left the last ticks
 tick-on : (slots now : ℕ) (all : List Approval) → Until now all → cleared (suc now) (rowAt slots now all) ≡ rowAt slots (suc now) all
-tick-on slots now [] u = zeros-cleared slots _
+tick-on slots now [] u = zeros-stay slots _
 tick-on slots now (a ∷ rest) u =
     let t = a .tick in
     let row = rowAt slots now rest in

@@ -1,15 +1,15 @@
 -- Laws of a row of slots: its total, and which slots moving on zeroes. Assumes nothing.
-use Prim.Native.Nat.{ℕ, zero, suc, _+_, _-_, _*_, _/_, _%_, _≤_, _<_}
+use Prim.Native.Nat.{ℕ, zero, suc, _+_, _-_, _%_, _≤_, _<_}
 use mathlib.Core.List.{List, [], _∷_}
 use mathlib.Core.Logic.{⊎-elim}
 use mathlib.Core.Path.{_≡_, refl, sym, ap, subst, _∙_}
-use native.Mathlib.Nat.{div-add-mod', mod-lt, eq-or-lt-of-le, add-mod-right, add-zero}
+use native.Mathlib.Nat.{mod-lt, eq-or-lt-of-le, add-zero}
 use native.Mathlib.Numerals.{add-one}
 use native.Mathlib.Omega.{arith}
-use lib.Arith.{digits-mod}
 use lib.ListN.{length, getD, set, drop, replicate, length-set, length-replicate, getD-replicate}
 use lib.Seq.{drop-cons, getD-set-same, getD-set-other, set-getD, ext-getD}
-use Rattle.common.proofs.Choice.{le-or-gt}
+use Rattle.common.proofs.Lists.{zero-kept}
+use Rattle.common.proofs.Remainders.{reached}
 use Rattle.ledger.specs.Rows.{total, slotOf, passed, movedOn, charged}
 
 -- ---- the total
@@ -49,14 +49,6 @@ passed-next old t row h =
     let f : old + suc (t - old) ≡ t + 1 = omega arith in
     rw (e, f, length-passed (t - old) old row)
 
--- zeroing a slot keeps every zero
-zero-kept : (row : List ℕ) (i j : ℕ) → getD row j 0 ≡ 0 → getD (set row i 0) j 0 ≡ 0
-zero-kept [] i j e = e
-zero-kept (x ∷ row) zero zero e = refl
-zero-kept (x ∷ row) zero (suc j) e = e
-zero-kept (x ∷ row) (suc i) zero e = e
-zero-kept (x ∷ row) (suc i) (suc j) e = zero-kept row i j e
-
 -- the slot of a tick passed is zeroed, and a slot of none of them stays
 pub passed-slot : (n old j : ℕ) (row : List ℕ) → 0 < length row → 1 ≤ j → j ≤ n → getD (passed n old row) ((old + j) % length row) 0 ≡ 0
 unfolding passed
@@ -77,22 +69,6 @@ other-slot (suc n) old i row f =
     ∙ other-slot n old i row (λ j l h. f j l (omega arith))
 
 -- as many ticks as there are slots come to every slot
-reached : (s old i : ℕ) → i < s → (j : ℕ) × (1 ≤ j) × (j ≤ s) × ((old + j) % s ≡ i)
-reached s old i h =
-    let q = old / s in
-    let r = old % s in
-    let d : q * s + r ≡ old = div-add-mod' old s in
-    let m : r < s = mod-lt old (omega arith) in
-    ⊎-elim
-    (λ (l : i ≤ r). (
-      s - r + i,
-      omega arith,
-      omega arith,
-      ap (λ (k : ℕ). k % s) {x = old + (s - r + i)} {y = q * s + i + s} (omega arith) ∙ add-mod-right (q * s + i) s ∙ digits-mod q h,
-    ))
-    (λ (g : r < i). (i - r, omega arith, omega arith, ap (λ (k : ℕ). k % s) {x = old + (i - r)} {y = q * s + i} (omega arith) ∙ digits-mod q h))
-    (le-or-gt i r)
-
 pub passed-all : (n old : ℕ) (row : List ℕ) → length row ≤ n → passed n old row ≡ replicate (length row) 0
 passed-all n old row h =
     let long = length-passed n old row in
