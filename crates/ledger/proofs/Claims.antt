@@ -5,24 +5,24 @@ use mathlib.Core.Bool.{Bool, true, false}
 use mathlib.Core.List.{List, [], _∷_, _++_}
 use mathlib.Core.Logic.{⊎-elim}
 use mathlib.Core.Path.{_≡_, refl, sym, ap, subst, _∙_}
-use native.Mathlib.Nat.{le-refl}
+use native.Mathlib.Nat.{le-refl, mod-lt}
 use native.Mathlib.Omega.{arith}
 use borrow.Author.Tests.{eq-eqb, ne-eqb}
-use lib.ListN.{length, getD, length-replicate}
+use lib.ListN.{length, getD, set, length-replicate}
 use Rattle.common.specs.Choice.{pick, within}
 use Rattle.common.proofs.Choice.{chosen, within-low, within-high, in-within}
 use Rattle.common.proofs.Lists.{zeros-hold}
-use Rattle.refusals.specs.Reply.{Reply, answer, refuse, leaves, andThen}
+use Rattle.refusals.specs.Reply.{Reply, answer, refuse, leaves, done, andThen}
 use Rattle.rates.specs.Steps.{topCode, rateOf, greatestUpTo}
 use Rattle.rates.proofs.StepLaws.{greatest-only}
 use Rattle.ledger.specs.declared.Ledger.{Ledger}
 use Rattle.ledger.specs.Rows.{passed, movedOn, charged}
 use Rattle.ledger.specs.Calls.{Link, lent, linkInRange, setUpReply, movedTo, moveReply, grantOf, Granted, granted, askReply}
-use Rattle.ledger.specs.Replies.{rowIn, codeIn, linkIn}
-use Rattle.ledger.specs.History.{Calls, Call, Approval, Past, after, afterAll, approvedAt, inLast, approvedLast}
+use Rattle.ledger.specs.Replies.{ledgerIn, rowIn, codeIn, linkIn}
+use Rattle.ledger.specs.History.{Calls, ledgerCalls, Call, Approval, Past, after, afterAll, approvedAt, inLast, approvedLast}
 use Rattle.ledger.specs.History as histories
-use Rattle.ledger.specs.Claims.{Totals, Approving, Moving, InRange, Tested, Testing, IsSetUp, Moves, Grants, Accepting, Accepts, Continuing, Accounted, HistoryTheorem, ownSum, ShutOut}
-use Rattle.ledger.proofs.RowLaws.{total-zeros, total-set, total-charged, passed-slot, other-slot, length-moved, passed-all, passed-more, length-charged, charged-same, charged-other, charged-none}
+use Rattle.ledger.specs.Claims.{Totals, Approving, Moving, InRange, Tested, Testing, IsSetUp, Moves, Grants, Accepting, Saying, Accepts, Continuing, Accounted, HistoryTheorem, held, ownSum, ShutOut}
+use Rattle.ledger.proofs.RowLaws.{total-zeros, total-set, passed-slot, other-slot, length-moved, passed-all, passed-more, length-charged, charged-same, charged-other, charged-none}
 use Rattle.ledger.proofs.CallLaws.{ranged, in-ranges, Sound, zeroed, set-up-sound, set-up-answered, set-up-link, moved-sound, grant-rule, granted-sound, move-seven, move-eight, move-nine, move-done, move-answered, moved-same, ask-seven, ask-after, ask-answered}
 use Rattle.ledger.proofs.HistoryLaws.{in-last, gone, to-come}
 use Rattle.ledger.proofs.History.{history}
@@ -142,6 +142,27 @@ accepting = record {
       );
 }
 
+-- ---- what is said and left
+
+pub saying : Saying
+saying = record {
+  set-up-refused = λ row tick allowance n e. set-up row tick allowance (refuse n) e;
+  set-up-done = λ row tick allowance link e. set-up row tick allowance (answer link) e;
+  move-refused = λ link tick n e. move link tick (refuse n) e;
+  move-done = λ link tick next e. move link tick (answer next) e;
+  ask-refused = λ link tick asked n e. ask link tick asked (refuse n) e;
+  ask-done = λ link tick asked g e. ask link tick asked (answer g) e;
+}
+  where
+    set-up : (row : List ℕ) (tick allowance : ℕ) (r : Reply Link) → setUpReply row tick allowance ≡ r → ledgerCalls .setUp row tick allowance ≡ record { said = ledgerIn r; left = leaves row (rowIn r) }
+    set-up row tick allowance r e = ap (λ (r : Reply Link). record { said = ledgerIn r; left = leaves row (rowIn r) }) e
+
+    move : (link : Link) (tick : ℕ) (r : Reply Link) → moveReply link tick ≡ r → ledgerCalls .move link tick ≡ record { said = done r; left = leaves link r }
+    move link tick r e = ap (λ (r : Reply Link). record { said = done r; left = leaves link r }) e
+
+    ask : (link : Link) (tick asked : ℕ) (r : Reply Granted) → askReply link tick asked ≡ r → ledgerCalls .ask link tick asked ≡ record { said = codeIn r; left = leaves link (linkIn r) }
+    ask link tick asked r e = ap (λ (r : Reply Granted). record { said = codeIn r; left = leaves link (linkIn r) }) e
+
 -- ---- after an accepted call
 
 accepts : (link : Link) → Sound link → Accepts link
@@ -173,11 +194,11 @@ after-one : (calls : Calls) (past : Past) (list : List Call) (call : Call) → a
 after-one calls past [] call = refl
 after-one calls past (c ∷ rest) call = after-one calls (after calls past c) rest call
 
--- where the history holds before and after an asking at the tick of the link, what is added is the rate of what is granted
-added : (made : Link → ℕ → ℕ) (slots allowance asked : ℕ) (past : Past) → within 1 asked topCode ≡ true → InRange slots allowance
+-- where the history holds before and after an asking at the tick of the link, what is stored is what the slot held and the rate of what is granted
+stored : (made : Link → ℕ → ℕ) (slots allowance asked : ℕ) (past : Past) → within 1 asked topCode ≡ true → InRange slots allowance
     → Accounted slots allowance past → Accounted slots allowance (after (ownSum made) past (histories.asking (past .tick) asked))
-    → made (past .link) (grantOf (past .link) asked) ≡ rateOf (grantOf (past .link) asked)
-added made slots allowance asked past in-range ranges before then =
+    → made (past .link) (grantOf (past .link) asked) ≡ held (past .link) + rateOf (grantOf (past .link) asked)
+stored made slots allowance asked past in-range ranges before then =
     let link = past .link in
     let t = past .tick in
     let code = grantOf link asked in
@@ -188,13 +209,13 @@ added made slots allowance asked past in-range ranges before then =
     let sound : Sound link = record { ranges = record { slots-low = omega (arith, ranges .slots-low); slots-high = omega (arith, ranges .slots-high); allowance-high = omega (arith, ranges .allowance-high) }; below = omega arith } in
     let moved : moveReply link t ≡ answer link =
     move-done link t sound (omega arith) ∙ ap (λ (u : ℕ). answer (movedTo u link)) (sym same-tick) ∙ ap answer (moved-same link) in
-    let grant : ℕ → Link → Granted = λ asked link. record { code = grantOf link asked; link = lent (charged (link .ledger .tick) (made link (grantOf link asked)) (link .row)) (link .ledger) } in
+    let grant : ℕ → Link → Granted = λ asked link. record { code = grantOf link asked; link = lent (set (link .row) (link .ledger .tick % length (link .row)) (made link (grantOf link asked))) (link .ledger) } in
     let reply = pick (within 1 asked topCode) (andThen (moveReply link t) (λ moved. answer (grant asked moved))) (refuse 7) in
     let granted-so : reply ≡ answer (grant asked link) = chosen (within 1 asked topCode) _ (refuse 7) in-range ∙ ap (λ (r : Reply Link). andThen r (λ moved. answer (grant asked moved))) moved in
     let afterwards : Accounted slots allowance (histories.afterAsking t past (answer code) (grant asked link .link)) =
     subst (λ (r : Reply Granted). Accounted slots allowance (histories.afterAsking t past (codeIn r) (leaves link (linkIn r)))) granted-so then in
     let sum = rw (in-last slots t t (le-refl t) (omega (arith, ranges .slots-low))) at (afterwards .total-is) in
-    omega (arith, sum, before .total-is, total-charged (link .ledger .tick) (made link code) (link .row) (sound .ranges .slots-low))
+    omega (arith, sum, before .total-is, total-set (link .row) (link .ledger .tick % length (link .row)) (made link code) (mod-lt (link .ledger .tick) (sound .ranges .slots-low)))
 
 -- the record of a row set up at tick 0
 abbrev at-0 : ℕ → Ledger
@@ -205,13 +226,17 @@ pub shutOut : ShutOut
 unfolding linkInRange within movedOn passed charged inLast grantOf greatestUpTo rateOf
 shutOut = record {
   otherwise-ours = refl;
+  own-sum-ours = refl;
   own-sum = λ made row tick allowance ledger e list asked l h other claim.
       let past = afterAll (ownSum made) (histories.begun (lent (leaves row (rowIn (setUpReply row tick allowance))) ledger) tick) list in
-      other (added made (length row) allowance asked past (in-within 1 asked topCode l h) (set-up-link row tick allowance ledger e .0) (claim row tick allowance ledger e list)
+      other (stored made (length row) allowance asked past (in-within 1 asked topCode l h) (set-up-link row tick allowance ledger e .0) (claim row tick allowance ledger e list)
       (subst (Accounted (length row) allowance) (after-one (ownSum made) _ list (histories.asking (past .tick) asked)) (claim row tick allowance ledger e (list ++ (histories.asking (past .tick) asked ∷ [])))));
   adds-nothing = λ claim.
       let a = claim (0 ∷ []) 0 80000 (at-0 80000) refl (histories.asking 0 1 ∷ []) in
       let e : _≡_ {A = ℕ} 0 80000 = a .total-is in omega arith;
+  overwrites = λ claim.
+      let a = claim (0 ∷ []) 0 160000 (at-0 160000) refl (histories.asking 0 1 ∷ histories.asking 0 1 ∷ []) in
+      let e : _≡_ {A = ℕ} 80000 160000 = a .total-is in omega arith;
   forgets-moving = λ claim.
       let a = claim (0 ∷ 0 ∷ []) 0 80000 (at-0 80000) refl (histories.asking 0 1 ∷ histories.moving 1 ∷ []) in
       let e : _≡_ {A = ℕ} 0 80000 = a .total-is in omega arith;
@@ -236,7 +261,10 @@ shutOut = record {
   stays-behind = λ claim.
       let a = claim (0 ∷ []) 0 0 (at-0 0) refl (histories.asking 1 1 ∷ []) in
       let e : _≡_ {A = ℕ} 0 1 = a .tick-is in omega arith;
-  moves-anyway = λ claim.
-      let a = claim (0 ∷ []) 0 0 (at-0 0) refl (histories.asking 1 0 ∷ []) in
-      let e : _≡_ {A = ℕ} 1 0 = a .tick-is in omega arith;
+  stores-moving = λ claim.
+      let a = claim (0 ∷ []) 1 0 (record { tick = 1; allowance = 0 }) refl (histories.moving 0 ∷ []) in
+      let e : _≡_ {A = ℕ} 0 1 = a .tick-is in omega arith;
+  stores-asking = λ claim.
+      let a = claim (0 ∷ []) 1 0 (record { tick = 1; allowance = 0 }) refl (histories.asking 0 1 ∷ []) in
+      let e : _≡_ {A = ℕ} 0 1 = a .tick-is in omega arith;
 }

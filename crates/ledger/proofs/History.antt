@@ -12,7 +12,7 @@ use Rattle.rates.specs.Steps.{rateOf}
 use Rattle.ledger.specs.Rows.{total, movedOn, charged}
 use Rattle.ledger.specs.Calls.{Link, movedTo, moveReply, grantOf, Granted, granted, askReply}
 use Rattle.ledger.specs.Replies.{codeIn, linkIn}
-use Rattle.ledger.specs.History.{ours, Call, moving, asking, Approval, Past, begun, afterMoving, afterAsking, after, afterAll, approvedLast}
+use Rattle.ledger.specs.History.{ledgerCalls, Call, moving, asking, Approval, Past, begun, afterMoving, afterAsking, after, afterAll, approvedLast}
 use Rattle.ledger.specs.Claims.{InRange, Accounted, History}
 use Rattle.ledger.proofs.CallLaws.{Sound, zeroed, set-up-sound, set-up-link, moved-sound, granted-sound, move-answered, ask-answered}
 use Rattle.ledger.proofs.HistoryLaws.{in-last, rowAt, Until, until-later, length-rowAt, moved-row, total-rowAt, slot-rowAt, early-rowAt, approved-later, approved-before}
@@ -110,13 +110,13 @@ module _ (slots allowance : ℕ) where
       let m = ask-answered (past .link) tick asked g e in
       subst (λ (g : Granted). Kept slots allowance (afterAsking tick past (answer (g .code)) (g .link))) (sym (m .4)) (kept-granted _ asked (kept-moved past tick k (m .3)))
 
-  kept-after : (past : Past) (call : Call) → Kept slots allowance past → Kept slots allowance (after ours past call)
+  kept-after : (past : Past) (call : Call) → Kept slots allowance past → Kept slots allowance (after ledgerCalls past call)
   kept-after past (moving tick) k = kept-moving past tick k _ refl
   kept-after past (asking tick code) k = kept-asking past tick code k _ refl
 
-  kept-all : (past : Past) (list : List Call) → Kept slots allowance past → Kept slots allowance (afterAll ours past list)
+  kept-all : (past : Past) (list : List Call) → Kept slots allowance past → Kept slots allowance (afterAll ledgerCalls past list)
   kept-all past [] k = k
-  kept-all past (call ∷ rest) k = kept-all (after ours past call) rest (kept-after past call k)
+  kept-all past (call ∷ rest) k = kept-all (after ledgerCalls past call) rest (kept-after past call k)
 
 kept-begun : (row : List ℕ) (tick allowance : ℕ) → InRange (length row) allowance → Kept (length row) allowance (begun (zeroed row tick allowance) tick)
 kept-begun row tick allowance r = record {
@@ -128,7 +128,7 @@ kept-begun row tick allowance r = record {
   last-most = λ t. omega arith;
 }
 
-pub history : History ours
+pub history : History ledgerCalls
 history row tick allowance ledger e list =
     let s = set-up-link row tick allowance ledger e in
     accounted (length row) allowance _ (kept-all (length row) allowance _ list

@@ -7,13 +7,12 @@ use mathlib.Core.Path.{_≡_}
 use lib.Dec.{ltb, eqb}
 use lib.ListN.{length, getD, set, replicate}
 use Rattle.common.specs.Choice.{pick, within}
-use Rattle.refusals.specs.Reply.{Reply, answer, refuse, leaves, andThen}
+use Rattle.refusals.specs.Reply.{Reply, answer, refuse, andThen}
 use Rattle.rates.specs.Steps.{topCode, rateOf, Greatest}
 use Rattle.ledger.specs.declared.Ledger.{Ledger}
 use Rattle.ledger.specs.Rows.{total, cleared, movedOn, charged}
 use Rattle.ledger.specs.Calls.{Link, lent, setUpReply, moveReply, grantOf, Granted, granted, askReply}
-use Rattle.ledger.specs.Replies.{codeIn, linkIn}
-use Rattle.ledger.specs.History.{Outcome, Calls, callsBy, ours, Call, Approval, Past, begun, afterAll, approvedAt, approvedLast}
+use Rattle.ledger.specs.History.{Outcome, Calls, callsBy, ledgerCalls, Call, Approval, Past, begun, afterAll, approvedAt, approvedLast}
 
 -- ---- sums
 
@@ -97,6 +96,20 @@ pub record Accepting : Type 0 where
   pub move-same : (link next : Link) → moveReply link (link .ledger .tick) ≡ answer next → next ≡ link
   pub ask : (link : Link) (tick asked : ℕ) (g : Granted) → askReply link tick asked ≡ answer g → (moved : Link) × Moves link tick moved × Grants moved tick asked g
 
+-- ---- what is said and left
+
+-- a refused call says its number and leaves what it was lent; an accepted one says and leaves what it replies
+pub record Saying : Type 0 where
+  pub set-up-refused : (row : List ℕ) (tick allowance n : ℕ) → setUpReply row tick allowance ≡ refuse n
+      → ledgerCalls .setUp row tick allowance ≡ record { said = refuse n; left = row }
+  pub set-up-done : (row : List ℕ) (tick allowance : ℕ) (link : Link) → setUpReply row tick allowance ≡ answer link
+      → ledgerCalls .setUp row tick allowance ≡ record { said = answer (link .ledger); left = link .row }
+  pub move-refused : (link : Link) (tick n : ℕ) → moveReply link tick ≡ refuse n → ledgerCalls .move link tick ≡ record { said = refuse n; left = link }
+  pub move-done : (link : Link) (tick : ℕ) (next : Link) → moveReply link tick ≡ answer next → ledgerCalls .move link tick ≡ record { said = answer tt; left = next }
+  pub ask-refused : (link : Link) (tick asked n : ℕ) → askReply link tick asked ≡ refuse n → ledgerCalls .ask link tick asked ≡ record { said = refuse n; left = link }
+  pub ask-done : (link : Link) (tick asked : ℕ) (g : Granted) → askReply link tick asked ≡ answer g
+      → ledgerCalls .ask link tick asked ≡ record { said = answer (g .code); left = g .link }
+
 -- ---- after an accepted call
 
 -- a call with the link's allowance, a code 1 to 15 and a tick not earlier meets no refusal
@@ -131,7 +144,7 @@ History calls = (row : List ℕ) (tick allowance : ℕ) (ledger : Ledger) → ca
     → (list : List Call) → Accounted (length row) allowance (afterAll calls (begun (lent (calls .setUp row tick allowance .left) ledger) tick) list)
 
 abbrev pub HistoryTheorem : Type 0
-HistoryTheorem = History ours
+HistoryTheorem = History ledgerCalls
 
 -- ---- ledgers of which it is false
 
@@ -140,11 +153,15 @@ abbrev pub ledgerBy : (Link → ℕ → Reply Link) → (Link → ℕ → Reply 
 ledgerBy moving before granting =
     callsBy setUpReply moving (λ link tick asked. pick (within 1 asked topCode) (andThen (before link tick) (λ moved. answer (granting asked moved))) (refuse 7))
 
--- one that "records a sum of its own making": it grants as ours does, and adds `made` in place of the granted code's rate
+-- what the slot of the stored tick holds
+abbrev pub held : Link → ℕ
+held link = getD (link .row) (link .ledger .tick % length (link .row)) 0
+
+-- one that "records a sum of its own making": it grants as ours does, and stores `made` in the slot of the tick
 abbrev pub ownSum : (Link → ℕ → ℕ) → Calls
 ownSum made = ledgerBy moveReply moveReply (λ asked link. record {
   code = grantOf link asked;
-  link = lent (charged (link .ledger .tick) (made link (grantOf link asked)) (link .row)) (link .ledger);
+  link = lent (set (link .row) (link .ledger .tick % length (link .row)) (made link (grantOf link asked))) (link .ledger);
 })
 
 -- moving on to a later tick that forgets the old tick's slot as well
@@ -168,23 +185,27 @@ zeroingNew link tick = andThen (moveReply link tick) (λ moved. answer (lent (cl
 abbrev pub grantingAll : ℕ → Link → Granted
 grantingAll asked link = record { code = asked; link = lent (charged (link .ledger .tick) (rateOf asked) (link .row)) (link .ledger) }
 
--- asking that does not move on where it grants code 0, and asking that moves on although it refuses the code
+-- asking that does not move on where it grants code 0
 abbrev pub stayingBehind : Link → ℕ → ℕ → Reply Granted
 stayingBehind link tick asked = andThen (askReply link tick asked) (λ g. answer (pick (eqb (g .code) 0) (record { code = 0; link = link }) g))
 
-abbrev pub movingAnyway : Link → ℕ → ℕ → Outcome ℕ Link
-movingAnyway link tick asked = record { said = codeIn (askReply link tick asked); left = leaves (leaves link (moveReply link tick)) (linkIn (askReply link tick asked)) }
+-- an outcome of which the tick is stored also where it was refused
+abbrev pub storing : {A : Type 0} → ℕ → Outcome A Link → Outcome A Link
+storing tick outcome = record { said = outcome .said; left = lent (outcome .left .row) (record { tick = tick; allowance = outcome .left .ledger .allowance }) }
 
 pub record ShutOut : Type 0 where
   -- with all of its parts ours, it is ours
-  pub otherwise-ours : ledgerBy moveReply moveReply granted ≡ ours
-  -- whatever sum a ledger makes up, if at some link that it comes to, asked at the tick where it stands, it adds something else than the rate of what it grants; adding nothing is one
-  pub own-sum : (made : Link → ℕ → ℕ) (row : List ℕ) (tick allowance : ℕ) (ledger : Ledger) → ours .setUp row tick allowance .said ≡ answer ledger
+  pub otherwise-ours : ledgerBy moveReply moveReply granted ≡ ledgerCalls
+  pub own-sum-ours : ownSum (λ link code. held link + rateOf code) ≡ ledgerCalls
+  -- whatever sum a ledger makes up, if at some link that it comes to, asked at the tick where it stands, it stores something else than what the slot held and the rate of what it grants
+  pub own-sum : (made : Link → ℕ → ℕ) (row : List ℕ) (tick allowance : ℕ) (ledger : Ledger) → ledgerCalls .setUp row tick allowance .said ≡ answer ledger
       → (list : List Call) (asked : ℕ) → 1 ≤ asked → asked ≤ 15
-      → let link = afterAll (ownSum made) (begun (lent (ours .setUp row tick allowance .left) ledger) tick) list .link in
-      (made link (grantOf link asked) ≡ rateOf (grantOf link asked) → ⊥)
+      → let link = afterAll (ownSum made) (begun (lent (ledgerCalls .setUp row tick allowance .left) ledger) tick) list .link in
+      (made link (grantOf link asked) ≡ held link + rateOf (grantOf link asked) → ⊥)
       → History (ownSum made) → ⊥
-  pub adds-nothing : History (ownSum (λ link code. 0)) → ⊥
+  -- two of these: one that stores what the slot held, and one that stores the rate alone
+  pub adds-nothing : History (ownSum (λ link code. held link)) → ⊥
+  pub overwrites : History (ownSum (λ link code. rateOf code)) → ⊥
   -- in moving on alone, in asking alone, or in both
   pub forgets-moving : History (ledgerBy forgetting moveReply granted) → ⊥
   pub forgets-asking : History (ledgerBy moveReply forgetting granted) → ⊥
@@ -193,6 +214,7 @@ pub record ShutOut : Type 0 where
   pub keeps-all : History (ledgerBy keepingAll keepingAll granted) → ⊥
   pub zeroes-new : History (ledgerBy zeroingNew zeroingNew granted) → ⊥
   pub grants-all : History (ledgerBy moveReply moveReply grantingAll) → ⊥
-  -- these two by the stored tick
+  -- these by the stored tick
   pub stays-behind : History (callsBy setUpReply moveReply stayingBehind) → ⊥
-  pub moves-anyway : History (record { setUp = ours .setUp; move = ours .move; ask = movingAnyway }) → ⊥
+  pub stores-moving : History (record { setUp = ledgerCalls .setUp; move = λ link tick. storing tick (ledgerCalls .move link tick); ask = ledgerCalls .ask }) → ⊥
+  pub stores-asking : History (record { setUp = ledgerCalls .setUp; move = ledgerCalls .move; ask = λ link tick asked. storing tick (ledgerCalls .ask link tick asked) }) → ⊥

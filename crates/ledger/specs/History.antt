@@ -22,7 +22,7 @@ pub record Calls : Type 0 where
   pub move : Link → ℕ → Outcome (Unit {0}) Link
   pub ask : Link → ℕ → ℕ → Outcome ℕ Link
 
--- calls by their replies, as the contracts of `set_up`, `move_on` and `ask` have it: a refused call leaves what it was lent
+-- calls by their replies: a refused call leaves what it was lent
 abbrev pub callsBy : (List ℕ → ℕ → ℕ → Reply Link) → (Link → ℕ → Reply Link) → (Link → ℕ → ℕ → Reply Granted) → Calls
 callsBy setUp move ask = record {
   setUp = λ row tick allowance. record { said = ledgerIn (setUp row tick allowance); left = leaves row (rowIn (setUp row tick allowance)) };
@@ -30,8 +30,9 @@ callsBy setUp move ask = record {
   ask = λ link tick code. record { said = codeIn (ask link tick code); left = leaves link (linkIn (ask link tick code)) };
 }
 
-abbrev pub ours : Calls
-ours = callsBy setUpReply moveReply askReply
+-- ours: the contracts of `set_up`, `move_on` and `ask` cite these
+abbrev pub ledgerCalls : Calls
+ledgerCalls = callsBy setUpReply moveReply askReply
 
 -- a call after the row was set up: moving on to a tick, or asking for a code at a tick
 pub data Call : Type 0 where

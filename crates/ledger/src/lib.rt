@@ -7,10 +7,10 @@ ghost use mathlib.Core.Path.{_≡_};
 ghost use Prim.Native.Nat.{_+_, _≤_, _<_, min};
 ghost use lib.ListN.{length, replicate};
 ghost use Rattle.rates.specs.Steps.{topCode, rateOf, greatestUpTo};
-ghost use Rattle.refusals.specs.Reply.{leaves, done};
 ghost use Rattle.ledger.specs.Rows.{total, movedOn, charged};
-ghost use Rattle.ledger.specs.Calls.{mostAllowance, lent, linkInRange, setUpReply, moveReply, grantOf, askReply};
-ghost use Rattle.ledger.specs.Replies.{setUpTold, moveTold, grantTold, ledgerIn, rowIn, codeIn, linkIn};
+ghost use Rattle.ledger.specs.Calls.{mostAllowance, lent, linkInRange, grantOf};
+ghost use Rattle.ledger.specs.Replies.{setUpTold, moveTold, grantTold};
+ghost use Rattle.ledger.specs.History.{ledgerCalls};
 use rates::Rate;
 use rates::TOP_CODE;
 use rates::rate_of;
@@ -150,8 +150,8 @@ fn greatest_code(asked: u32, left: u64) -> u32
 
 // Sets a row up: every slot is zeroed, whatever it held, and the ledger starts at `tick`.
 pub fn set_up(row: &mut [u64], tick: u64, allowance: u64) -> SetUp
-    ensures answer { λ r. ⌜ setUpTold r ≡ ledgerIn (setUpReply (now (row .entry)) tick allowance) ⌝ }
-    ensures row { λ _. ⌜ now (row .exit) ≡ leaves (now (row .entry)) (rowIn (setUpReply (now (row .entry)) tick allowance)) ⌝ }
+    ensures answer { λ r. ⌜ setUpTold r ≡ ledgerCalls .setUp (now (row .entry)) tick allowance .said ⌝ }
+    ensures row { λ _. ⌜ now (row .exit) ≡ ledgerCalls .setUp (now (row .entry)) tick allowance .left ⌝ }
 {
     if !link_in_range(row.len(), allowance) {
         return SetUp::Refused(Refusal::OutOfRange);
@@ -164,8 +164,8 @@ pub fn set_up(row: &mut [u64], tick: u64, allowance: u64) -> SetUp
 // changes nothing, and a tick before the stored one is refused, as is a row whose total is above
 // the allowance.
 pub fn move_on(row: &mut [u64], ledger: Ledger, tick: u64) -> Moved
-    ensures answer { λ r. ⌜ moveTold (r .answer) ≡ done (moveReply (lent (now (row .entry)) ledger) tick) ⌝ }
-    ensures link { λ r. ⌜ lent (now (row .exit)) (r .ledger) ≡ leaves (lent (now (row .entry)) ledger) (moveReply (lent (now (row .entry)) ledger) tick) ⌝ }
+    ensures answer { λ r. ⌜ moveTold (r .answer) ≡ ledgerCalls .move (lent (now (row .entry)) ledger) tick .said ⌝ }
+    ensures link { λ r. ⌜ lent (now (row .exit)) (r .ledger) ≡ ledgerCalls .move (lent (now (row .entry)) ledger) tick .left ⌝ }
 {
     let allowance = ledger.allowance;
     if !link_in_range(row.len(), allowance) {
@@ -209,8 +209,8 @@ fn approve(row: &mut [u64], ledger: Ledger, asked: u32) -> u32
 // Asks for a code from 1 to 15 at a tick: the ledger moves on to the tick, or is refused, and then
 // grants the greatest code up to the one asked that the allowance has room for.
 pub fn ask(row: &mut [u64], ledger: Ledger, tick: u64, code: u32) -> Asked
-    ensures answer { λ r. ⌜ grantTold (r .answer) ≡ codeIn (askReply (lent (now (row .entry)) ledger) tick code) ⌝ }
-    ensures link { λ r. ⌜ lent (now (row .exit)) (r .ledger) ≡ leaves (lent (now (row .entry)) ledger) (linkIn (askReply (lent (now (row .entry)) ledger) tick code)) ⌝ }
+    ensures answer { λ r. ⌜ grantTold (r .answer) ≡ ledgerCalls .ask (lent (now (row .entry)) ledger) tick code .said ⌝ }
+    ensures link { λ r. ⌜ lent (now (row .exit)) (r .ledger) ≡ ledgerCalls .ask (lent (now (row .entry)) ledger) tick code .left ⌝ }
 {
     if !in_range(1, code as u64, TOP_CODE as u64) {
         return Asked {
