@@ -1,0 +1,2 @@
+pub mod SightLaws
+pub mod Claims

@@ -1,0 +1,3 @@
+pub mod Sights
+pub mod Replies
+pub mod Claims
