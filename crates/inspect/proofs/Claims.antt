@@ -15,17 +15,9 @@ use Rattle.ipv4.specs.Views.{View, requestAt, view}
 use Rattle.inspect.specs.declared.Asking.{Asking}
 use Rattle.inspect.specs.declared.Asking.the-variants.{Nothing, Rate}
 use Rattle.inspect.specs.declared.Seen.{Seen}
-use Rattle.inspect.specs.Sights.{askingAt, requestOf, sighted, viewOf}
+use Rattle.inspect.specs.Sights.{askingAt, sighted, viewOf}
 use Rattle.inspect.specs.Claims.{Looking}
-
--- the request at a place is the one that is asked for there
-request-kept : (place : Place) (packet : List ℕ) → requestOf (askingAt place (requestAt place packet)) ≡ requestAt place packet
-request-kept Nowhere packet = refl
-request-kept (At o) packet = go (requestAt (At o) packet)
-  where
-    go : (x : Option Request) → requestOf (askingAt (At o) x) ≡ x
-    go none = refl
-    go (some r) = refl
+use Rattle.inspect.proofs.SightLaws.{request-kept}
 
 abbrev seenAt : List ℕ → Place → Reply Seen
 seenAt packet place = answer (record { ttl = ipTtl packet; asking = askingAt place (requestAt place packet) })

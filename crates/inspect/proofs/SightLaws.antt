@@ -23,7 +23,7 @@ use Rattle.ipv4.proofs.Claims.{locating, reading}
 use Rattle.inspect.specs.declared.Asking.{Asking}
 use Rattle.inspect.specs.declared.Asking.the-variants.{Nothing, Rate}
 use Rattle.inspect.specs.declared.Seen.{Seen}
-use Rattle.inspect.specs.Sights.{Room, askingAt, sighted}
+use Rattle.inspect.specs.Sights.{Room, askingAt, requestOf, sighted}
 
 -- ---- what was read at a place
 
@@ -68,3 +68,12 @@ sight-of reach ttl packet place asking e t a =
     ap (λ (n : ℕ). answer (record { ttl = n; asking = asking })) is
     ∙ ap (λ (x : Asking). answer (record { ttl = ipTtl packet; asking = x })) a
     ∙ ap (λ (r : Reply Place). andThen r (λ p. answer (record { ttl = ipTtl packet; asking = askingAt p (requestAt p packet) }))) e
+
+-- the request at a place is the one that is asked for there
+pub request-kept : (place : Place) (packet : List ℕ) → requestOf (askingAt place (requestAt place packet)) ≡ requestAt place packet
+request-kept Nowhere packet = refl
+request-kept (At o) packet = go (requestAt (At o) packet)
+  where
+    go : (x : Option Request) → requestOf (askingAt (At o) x) ≡ x
+    go none = refl
+    go (some r) = refl

@@ -1,7 +1,7 @@
 // The fifteen steps of speed: the rate of a code, a code from bits a second, rounded down as a
 // router does and up as a sender does, and the Quick-Start window that a code allows.
 ghost use mathlib.Core.Path.{_≡_};
-ghost use Prim.Native.Nat.{_^_, _≤_};
+ghost use Prim.Native.Nat.{_^_, _≤_, min};
 ghost use Rattle.rates.specs.Steps.{topCode, rateReply, roundedDown, roundedUpReply};
 ghost use Rattle.rates.specs.Window.{transportInRange, segmentsReply, bytesReply};
 ghost use Rattle.rates.specs.Replies.{rateTold, codeTold, windowTold};
@@ -91,6 +91,16 @@ pub fn round_up(wish: u64) -> Code
         return Code::Is(TOP_CODE);
     }
     Code::Is(below + 1)
+}
+
+// The lesser of two codes, as a rate and a ceiling.
+pub fn lesser(a: u32, b: u32) -> u32
+    ensures { λ r. ⌜ r ≡ min a b ⌝ }
+{
+    if b < a {
+        return b;
+    }
+    a
 }
 
 // Whether round trip, segment size and the headers' length are in their ranges.
