@@ -1,14 +1,17 @@
 -- Laws of lists that know nothing of what the elements mean. Assumes nothing.
 use Prim.Native.Nat.{ℕ, zero, suc, _+_, _-_, _≤_, _<_}
+use mathlib.Core.Bool.{Bool, true, _&&_}
 use mathlib.Core.List.{List, [], _∷_, _++_, append-assoc}
 use mathlib.Core.Logic.{_⊎_, inl, inr}
 use mathlib.Core.Path.{_≡_, refl, ap, ap₂, sym, _∙_}
 use native.Mathlib.Nat.{le-refl, sub-zero, zero-sub, suc-sub-suc}
 use native.Mathlib.Omega.{arith}
-use lib.Dec.{lit<}
+use lib.Dec.{lit<, ltb}
+use borrow.Author.Tests.{ltb-true}
 use lib.ListN.{length, getD, set, take, drop, replicate, length-append, length-drop, take-append-drop, drop-of-length-le}
 use lib.Seq.{set-comm, take-nil, take-all, take-add, take-set-lt, drop-cons, drop-at, drop-set-add, getD-drop, getD-set-other, set-getD, length-take-le, take-append-seam, drop-append-add, sets, sets-eq}
 use Rattle.common.specs.Lists.{Bytes}
+use Rattle.common.proofs.Choice.{both-true}
 
 -- the k elements of a list from place i on, written out
 abbrev pub elements : ℕ → ℕ → List ℕ → List ℕ
@@ -134,6 +137,16 @@ pub bytes-each : (l : List ℕ) → Each l → Bytes l
 bytes-each [] e i = lit< tt
 bytes-each (a ∷ l) e zero = e .0
 bytes-each (a ∷ l) e (suc i) = bytes-each l (e .1) i
+
+-- the same by one test, for a list of literals
+abbrev pub allBytes : List ℕ → Bool
+allBytes [] = true
+allBytes (a ∷ l) = ltb a 256 && allBytes l
+
+pub bytes-tested : (l : List ℕ) → allBytes l ≡ true → Bytes l
+bytes-tested [] e i = lit< tt
+bytes-tested (a ∷ l) e zero = ltb-true a 256 (both-true (ltb a 256) (allBytes l) e .0)
+bytes-tested (a ∷ l) e (suc i) = bytes-tested l (both-true (ltb a 256) (allBytes l) e .1) i
 
 pub bytes-sets : (l : List ℕ) (i : ℕ) (vs : List ℕ) → Bytes vs → Bytes l → Bytes (sets l i vs)
 bytes-sets l i [] v b = b

@@ -209,11 +209,11 @@ pub is-granted : (link new : Link) (code : ℕ) (r : Reply Granted) → answer c
 is-granted link new code (answer g) d e = let c : code ≡ g .code = same-answer d in ap₂ (λ (k : ℕ) (l : Link). answer (record { code = k; link = l })) (sym c) (sym e)
 is-granted link new code (refuse m) d e = absurd (clash (cc))
 
-asked-for : (ceiling tick wish : ℕ) (link : Link) → (wish ≡ 0 → ⊥) → ceilingFrom ceiling link tick wish ≡ askReply link tick wish
+pub asked-for : (ceiling tick wish : ℕ) (link : Link) → (wish ≡ 0 → ⊥) → ceilingFrom ceiling link tick wish ≡ askReply link tick wish
 asked-for ceiling tick zero link n = absurd (n refl)
 asked-for ceiling tick (suc wish) link n = refl
 
-wish-low : (ceiling : ℕ) (x : Option Request) → wishOf ceiling x ≤ ceiling
+pub wish-low : (ceiling : ℕ) (x : Option Request) → wishOf ceiling x ≤ ceiling
 wish-low ceiling none = omega arith
 wish-low ceiling (some r) = omega arith
 

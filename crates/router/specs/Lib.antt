@@ -2,3 +2,5 @@ pub mod Decisions
 pub mod Routers
 pub mod Parts
 pub mod Replies
+pub mod Traffic
+pub mod Claims
