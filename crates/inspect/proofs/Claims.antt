@@ -2,7 +2,7 @@
 use Prim.Native.Nat.{ℕ}
 use mathlib.Core.List.{List}
 use mathlib.Core.Option.{Option, none, some}
-use mathlib.Core.Path.{_≡_, refl, sym, ap, _∙_}
+use mathlib.Core.Path.{_≡_, refl, ap, _∙_}
 use Rattle.common.proofs.Choice.{clash}
 use Rattle.refusals.specs.Reply.{Reply, answer, refuse, andThen}
 use Rattle.refusals.proofs.ReplyLaws.{same-answer, through}
@@ -11,11 +11,10 @@ use Rattle.walk.specs.declared.Place.{Place}
 use Rattle.walk.specs.declared.Place.the-variants.{Nowhere, At}
 use Rattle.ipv4.specs.Headers.{ipTtl}
 use Rattle.ipv4.specs.Packets.{located}
-use Rattle.ipv4.specs.Views.{View, requestAt, view}
-use Rattle.inspect.specs.declared.Asking.{Asking}
-use Rattle.inspect.specs.declared.Asking.the-variants.{Nothing, Rate}
+use Rattle.ipv4.specs.Views.{View, requestAt}
+use Rattle.inspect.specs.declared.Asking.the-variants.{Rate}
 use Rattle.inspect.specs.declared.Seen.{Seen}
-use Rattle.inspect.specs.Sights.{askingAt, sighted, viewOf}
+use Rattle.inspect.specs.Sights.{askingAt, viewOf}
 use Rattle.inspect.specs.Claims.{Looking}
 use Rattle.inspect.proofs.SightLaws.{request-kept}
 

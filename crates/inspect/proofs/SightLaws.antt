@@ -7,7 +7,7 @@ use native.Mathlib.Omega.{arith}
 use lib.ListN.{length, take, drop}
 use Rattle.common.proofs.Choice.{clash}
 use Rattle.refusals.specs.Reply.{Reply, answer, refuse, andThen}
-use Rattle.refusals.proofs.ReplyLaws.{same-answer, through}
+use Rattle.refusals.proofs.ReplyLaws.{same-answer}
 use Rattle.options.specs.declared.request.Request.{Request}
 use Rattle.options.specs.Wire.{optionLength}
 use Rattle.options.specs.Requests.{requestRead}
@@ -15,14 +15,11 @@ use Rattle.walk.specs.declared.Place.{Place}
 use Rattle.walk.specs.declared.Place.the-variants.{Nowhere, At}
 use Rattle.ipv4.specs.Headers.{ipTtl}
 use Rattle.ipv4.specs.Packets.{ttlReply, located}
-use Rattle.ipv4.specs.Checks.{wellFormed}
 use Rattle.ipv4.specs.Views.{asRequest, requestAt}
-use Rattle.ipv4.proofs.HeaderLaws.{Good}
 use Rattle.ipv4.proofs.OptionLaws.{found}
 use Rattle.ipv4.proofs.Claims.{locating, reading}
 use Rattle.inspect.specs.declared.Asking.{Asking}
 use Rattle.inspect.specs.declared.Asking.the-variants.{Nothing, Rate}
-use Rattle.inspect.specs.declared.Seen.{Seen}
 use Rattle.inspect.specs.Sights.{Room, askingAt, requestOf, sighted}
 
 -- ---- what was read at a place

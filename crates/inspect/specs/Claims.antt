@@ -2,7 +2,7 @@
 use Prim.Native.Nat.{ℕ}
 use mathlib.Core.List.{List}
 use mathlib.Core.Path.{_≡_}
-use Rattle.refusals.specs.Reply.{answer, refuse, andThen}
+use Rattle.refusals.specs.Reply.{answer, andThen}
 use Rattle.options.specs.declared.request.Request.{Request}
 use Rattle.walk.specs.declared.Place.the-variants.{At}
 use Rattle.ipv4.specs.Packets.{located}

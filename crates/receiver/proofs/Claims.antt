@@ -1,5 +1,5 @@
 -- The claims of specs/Claims.antt. Assumes nothing.
-use Prim.Native.Nat.{ℕ, _+_, _/_, _%_, _≤_, _<_, min}
+use Prim.Native.Nat.{ℕ, _+_, _/_, _≤_, _<_, min}
 use mathlib.Core.Bool.{Bool, true, false}
 use mathlib.Core.List.{List}
 use mathlib.Core.Logic.{_⊎_, inl, inr, ⊎-elim}
@@ -22,11 +22,10 @@ use Rattle.options.proofs.Claims.{responseRoundTrip}
 use Rattle.walk.specs.declared.Place.{Place}
 use Rattle.walk.specs.declared.Place.the-variants.{Nowhere, At}
 use Rattle.ipv4.specs.Packets.{located}
-use Rattle.ipv4.specs.Views.{View, requestAt, view}
-use Rattle.ipv4.specs.Claims.{RequestFits, FitsWhere}
-use Rattle.ipv4.proofs.OptionLaws.{viewed-by}
-use Rattle.ipv4.proofs.Claims.{viewing, locating}
-use Rattle.receiver.specs.Reports.{ttlDiff, Report, unanswered, reported, reportOn, reportReply, receiverInRange, received, responseAfter}
+use Rattle.ipv4.specs.Views.{View, view}
+use Rattle.ipv4.specs.Claims.{RequestFits}
+use Rattle.ipv4.proofs.Claims.{viewing}
+use Rattle.receiver.specs.Reports.{ttlDiff, reported, reportReply, receiverInRange, received, responseAfter}
 use Rattle.receiver.specs.Claims.{TtlDiffs, Receiver, Given, Reports, Receiving, Responding, ReceivingOnly}
 use Rattle.receiver.proofs.ReportLaws.{no-report, report-is, received-seven}
 
@@ -100,9 +99,11 @@ receiving = record {
   other-function = λ reach ceiling room place packet g e f. by-view reach ceiling room packet (answer _) g (viewing .shows-other reach place packet e f);
   silent = λ reach ceiling room ttl packet r g e z. by-view reach ceiling room packet (answer _) g e ∙ ap answer (sym (no-report ceiling ttl r (silent-rate ceiling r z)));
   answers = λ reach ceiling room ttl packet r b g e h k.
-      let f = read-fits reach ttl packet r b e in
-      (report-of ceiling ttl r, reports-it ceiling ttl r (f .0) (f .1 .ttl-fits),
-      by-view reach ceiling room packet (answer _) g e ∙ ap answer (sym (report-is ceiling ttl r (λ z. absurd (omega arith)))));
+      let f = read-fits reach ttl packet r b e in (
+        report-of ceiling ttl r,
+        reports-it ceiling ttl r (f .0) (f .1 .ttl-fits),
+        by-view reach ceiling room packet (answer _) g e ∙ ap answer (sym (report-is ceiling ttl r (λ z. absurd (omega arith)))),
+      );
 }
 
 -- ---- the response buffer

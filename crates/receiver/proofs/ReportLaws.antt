@@ -1,22 +1,19 @@
 -- Laws of a receiver's report: which it is, and what it replies by what was seen of the packet. Assumes nothing.
 use Prim.Native.Nat.{ℕ, _+_, _-_, _%_, _^_, _<_, min}
-use mathlib.Core.Bool.{Bool, true, false}
+use mathlib.Core.Bool.{true, false}
 use mathlib.Core.List.{List}
 use mathlib.Core.Path.{_≡_, refl, sym, ap, ap₂, _∙_}
 use native.Mathlib.Omega.{arith}
 use borrow.Author.Tests.{eq-eqb, ne-eqb}
-use lib.ListN.{length}
 use Rattle.common.proofs.Choice.{chosen}
-use Rattle.refusals.specs.Reply.{Reply, answer, refuse, leaves, andThen}
+use Rattle.refusals.specs.Reply.{Reply, answer, refuse, andThen}
 use Rattle.options.specs.declared.request.Request.{Request}
-use Rattle.options.specs.Responses.{responseWritten}
-use Rattle.ipv4.specs.Views.{View, view}
+use Rattle.ipv4.specs.Views.{View}
 use Rattle.inspect.specs.declared.Asking.{Asking}
-use Rattle.inspect.specs.declared.Asking.the-variants.{Nothing, Rate}
 use Rattle.inspect.specs.declared.Seen.{Seen}
 use Rattle.inspect.specs.Sights.{requestOf, sighted, viewOf}
 use Rattle.inspect.proofs.Claims.{looking}
-use Rattle.receiver.specs.Reports.{ttlDiff, Report, unanswered, reported, reportOn, reportReply, receiverInRange, received, responseAfter}
+use Rattle.receiver.specs.Reports.{ttlDiff, Report, unanswered, reported, reportOn, reportReply, receiverInRange, received}
 
 -- ---- which report it is
 

@@ -4,7 +4,6 @@ use mathlib.Core.Bool.{Bool, _&&_}
 use mathlib.Core.List.{List}
 use mathlib.Core.Option.{Option, none, some}
 use lib.Dec.{eqb, leb}
-use lib.ListN.{length}
 use Rattle.common.specs.Choice.{pick}
 use Rattle.refusals.specs.Reply.{Reply, answer, refuse, leaves, andThen}
 use Rattle.rates.specs.Steps.{topCode}
@@ -12,7 +11,7 @@ use Rattle.options.specs.declared.request.Request.{Request}
 use Rattle.options.specs.declared.response.Response.{Response}
 use Rattle.options.specs.Wire.{optionLength}
 use Rattle.options.specs.Responses.{responseWritten}
-use Rattle.ipv4.specs.Views.{View, view}
+use Rattle.ipv4.specs.Views.{view}
 
 -- "TTL Diff = (IP TTL - QS TTL) modulo 256", of two bytes
 unfoldable pub ttlDiff : ℕ → ℕ → ℕ

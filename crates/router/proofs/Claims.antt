@@ -1,5 +1,5 @@
 -- The claims of specs/Claims.antt. Assumes nothing.
-use Prim.Native.Nat.{ℕ, zero, suc, _+_, _-_, _%_, _≤_, _<_, min}
+use Prim.Native.Nat.{ℕ, _-_, _≤_, _<_, min}
 use mathlib.Core.Bool.{Bool, true, false, _&&_}
 use mathlib.Core.List.{List, [], _∷_}
 use mathlib.Core.Logic.{_⊎_, inl, inr, ⊎-elim}
@@ -7,8 +7,7 @@ use mathlib.Core.Option.{Option, none, some}
 use mathlib.Core.Path.{_≡_, refl, sym, ap, subst, _∙_}
 use native.Mathlib.Omega.{arith}
 use borrow.Author.Tests.{le-leb, lt-leb}
-use lib.Dec.{leb}
-use lib.ListN.{length, getD}
+use lib.ListN.{length}
 use Rattle.common.specs.Choice.{within}
 use Rattle.common.specs.Lists.{Bytes}
 use Rattle.common.proofs.Choice.{clash, chosen, both-true, le-or-gt}
@@ -20,28 +19,27 @@ use Rattle.options.specs.declared.request.Request.{Request}
 use Rattle.options.specs.Wire.{fieldsFit, optionBytes, wordOf}
 use Rattle.options.specs.Requests.{isRequest}
 use Rattle.options.specs.Nonces.{lowered}
-use Rattle.walk.specs.declared.Place.{Place}
-use Rattle.walk.specs.declared.Place.the-variants.{Nowhere, At}
+use Rattle.walk.specs.declared.Place.the-variants.{At}
 use Rattle.walk.specs.Walks.{lengthFits, look, walkOn}
 use Rattle.ipv4.specs.Headers.{headerLength}
 use Rattle.ipv4.specs.Checksums.{onesAdd, onesSum, withChecksum, checksumOf, sealed}
 use Rattle.ipv4.specs.Checks.{wellFormed, headerChecked}
 use Rattle.ipv4.specs.Packets.{walked, located}
-use Rattle.ipv4.specs.Views.{View, requestAt, view, put}
+use Rattle.ipv4.specs.Views.{View, view, put}
 use Rattle.ipv4.proofs.OptionLaws.{viewed-by}
 use Rattle.ipv4.proofs.Claims.{viewing, forwarding}
 use Rattle.ledger.specs.Rows.{passed, movedOn, charged}
-use Rattle.ledger.specs.Calls.{Link, linkInRange, grantOf, Granted, askReply}
+use Rattle.ledger.specs.Calls.{linkInRange, grantOf, Granted}
 use Rattle.ledger.specs.History.{inLast}
 use Rattle.ledger.proofs.CallLaws as calls
 use Rattle.router.specs.declared.Decision.{Decision}
 use Rattle.router.specs.declared.Decision.the-variants as Decisions
 use Rattle.router.specs.Decisions.{oneLess, approvedAt, decided, denial, writtenBy, over, requestAfter}
-use Rattle.router.specs.Routers.{routerInRange, unexpired, routedView, routed, wishOf, ceilingFrom, Passage, passage, routedByLedger, ledgerRouter}
-use Rattle.router.specs.Claims.{Approves, Deciding, Router, Given, Testing, Passing, Silence, AsksNothing, Carries, Leaves, OneHop, SilentHop, AllGiven, AsksNoLedger, AtCeiling, WithLedger, AllowanceTheorem, touchingNothing, ShutOut}
+use Rattle.router.specs.Routers.{routerInRange, unexpired, routedView, routed, wishOf, ceilingFrom, Passage, passage, routedByLedger}
+use Rattle.router.specs.Claims.{Deciding, Router, Given, Testing, Passing, Silence, Carries, Leaves, OneHop, SilentHop, AllGiven, AsksNoLedger, AtCeiling, WithLedger, AllowanceTheorem, touchingNothing, ShutOut}
 use Rattle.router.specs.Traffic.{Arrival}
 use Rattle.router.proofs.DecisionLaws.{nothing-decided}
-use Rattle.router.proofs.RouterLaws.{routed-seven, wish-low, asked-for, LedgerBy, ledger-by, from-ledger}
+use Rattle.router.proofs.RouterLaws.{routed-seven, wish-low, asked-for, ledger-by, from-ledger}
 use Rattle.router.proofs.HopLaws.{ok-given, given-ok, not-given, routed-fault, routed-six, routed-view, ttl-shown, routed-passed, routed-reserved, silent-passed, silent-six, silent-accepted, untouched-passed, hop, silent-hop, denied-at, approved-at, approves-it, approves-only}
 use Rattle.router.proofs.TrafficLaws as traffic
 

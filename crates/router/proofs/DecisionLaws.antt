@@ -1,15 +1,13 @@
 -- Laws of a decision: which it is, by the rate and the ceiling, and that what it writes are numbers that can be written. Assumes nothing.
 use Prim.Native.Nat.{ℕ, _+_, _%_, _^_, _≤_, _<_, min}
-use mathlib.Core.Bool.{Bool, true, false}
+use mathlib.Core.Bool.{true}
 use mathlib.Core.Option.{Option, none, some}
-use mathlib.Core.Path.{_≡_, refl, sym, ap, ap₂, subst, _∙_}
+use mathlib.Core.Path.{_≡_, refl, sym, ap, ap₂, _∙_}
 use native.Mathlib.Omega.{arith}
 use lib.Dec.{eqb, leb, ltb}
-use borrow.Author.Tests.{eq-eqb, ne-eqb, leb-true, ltb-true, le-leb, lt-ltb, eqb-true}
-use Rattle.common.specs.Choice.{pick}
+use borrow.Author.Tests.{eq-eqb, ne-eqb, leb-true, ltb-true, le-leb, lt-ltb}
 use Rattle.common.proofs.Choice.{clash, both-true, by-test}
-use Rattle.refusals.specs.Reply.{Reply, answer, refuse}
-use Rattle.refusals.proofs.ReplyLaws.{answered}
+use Rattle.refusals.specs.Reply.{answer, refuse}
 use Rattle.rates.specs.Steps.{topCode}
 use Rattle.options.specs.declared.request.Request.{Request}
 use Rattle.options.specs.Wire.{nonceLimit}
@@ -19,7 +17,7 @@ use Rattle.ipv4.specs.Views.{View}
 use Rattle.ipv4.specs.Claims.{RequestFits, FitsWhere, Fits, asks}
 use Rattle.router.specs.declared.Decision.{Decision}
 use Rattle.router.specs.declared.Decision.the-variants.{Nothing, Approved, Denied}
-use Rattle.router.specs.Decisions.{oneLess, approvedAt, decided, decision, denial, writtenBy, over, requestAfter}
+use Rattle.router.specs.Decisions.{oneLess, approvedAt, decided, writtenBy, over, requestAfter}
 use Rattle.router.specs.Routers.{routerInRange, routedView}
 
 -- what is known once ceiling and fresh nonce are in their ranges

@@ -2,14 +2,14 @@
 use Prim.Native.Nat.{ℕ, _+_, _-_, _*_, _%_, _≤_, _<_, min}
 use mathlib.Core.Bool.{Bool, true, false}
 use mathlib.Core.List.{List}
-use mathlib.Core.Logic.{_⊎_, inl, inr}
+use mathlib.Core.Logic.{inl}
 use mathlib.Core.Option.{Option, none, some}
 use mathlib.Core.Path.{_≡_, refl, sym, ap, ap₂, subst, _∙_}
 use native.Mathlib.Omega.{arith}
 use borrow.Author.Tests.{le-leb, lt-leb}
-use lib.ListN.{length, getD}
+use lib.ListN.{getD}
 use Rattle.common.specs.Lists.{Bytes}
-use Rattle.common.proofs.Choice.{clash, chosen}
+use Rattle.common.proofs.Choice.{chosen}
 use Rattle.refusals.specs.Reply.{Reply, answer, refuse, andThen}
 use Rattle.refusals.proofs.ReplyLaws.{same-answer, through}
 use Rattle.options.specs.declared.request.Request.{Request}
@@ -17,22 +17,22 @@ use Rattle.options.specs.Wire.{reservedIn}
 use Rattle.options.proofs.Claims.{lowering}
 use Rattle.walk.specs.declared.Place.{Place}
 use Rattle.walk.specs.declared.Place.the-variants.{Nowhere, At}
-use Rattle.ipv4.specs.Headers.{ipTtl, headerLength}
-use Rattle.ipv4.specs.Checks.{wellFormed, headerChecked}
+use Rattle.ipv4.specs.Headers.{headerLength}
+use Rattle.ipv4.specs.Checks.{headerChecked}
 use Rattle.ipv4.specs.Packets.{walked, located, passedOn}
-use Rattle.ipv4.specs.Views.{View, optionAt, requestAt, view, put}
-use Rattle.ipv4.specs.Claims.{RequestFits, FitsWhere, Fits, asks, OutsideRequest, Changed}
+use Rattle.ipv4.specs.Views.{View, optionAt, view, put}
+use Rattle.ipv4.specs.Claims.{OutsideRequest, Changed}
 use Rattle.ipv4.proofs.HeaderLaws.{good}
-use Rattle.ipv4.proofs.OptionLaws.{viewed-by, view-place}
+use Rattle.ipv4.proofs.OptionLaws.{view-place}
 use Rattle.ipv4.proofs.ReadLaws.{passed-of}
-use Rattle.ipv4.proofs.Claims.{reading, locating, viewing, forwarding}
+use Rattle.ipv4.proofs.Claims.{reading, viewing, forwarding}
 use Rattle.router.specs.declared.Decision.{Decision}
 use Rattle.router.specs.declared.Decision.the-variants as Decisions
-use Rattle.router.specs.Decisions.{oneLess, approvedAt, decided, denial, writtenBy, over, requestAfter}
+use Rattle.router.specs.Decisions.{oneLess, approvedAt, decided, writtenBy, over, requestAfter}
 use Rattle.router.specs.Routers.{routerInRange, unexpired, routedView, routed, silentlyRouted}
 use Rattle.router.specs.Claims.{Approves, Given, PassedOn, OutsideOption, Anywhere, AsksNothing, Carries, Leaves}
 use Rattle.router.proofs.DecisionLaws.{in-range, ranges, nothing-decided, denied, approved, asks-kept, routed-fits}
-use Rattle.router.proofs.RouterLaws.{RoutedBy, routed-by}
+use Rattle.router.proofs.RouterLaws.{routed-by}
 
 -- ---- ranges
 

@@ -7,12 +7,12 @@ use mathlib.Core.Path.{_≡_, refl, sym, ap, ap₂, subst, _∙_}
 use native.Mathlib.Omega.{arith}
 use borrow.Author.Tests.{le-leb, lt-leb, leb-false}
 use lib.Dec.{leb}
-use lib.ListN.{length, take, drop, length-take, length-drop}
+use lib.ListN.{length, take, drop, length-drop}
 use lib.Seq.{sets, sets-eq, length-sets, length-take-le, drop-drop}
 use Rattle.common.specs.Choice.{pick}
 use Rattle.common.specs.Lists.{Bytes}
 use Rattle.common.proofs.Choice.{clash, chosen, both-true}
-use Rattle.refusals.specs.Reply.{Reply, answer, refuse, leaves, done, andThen}
+use Rattle.refusals.specs.Reply.{Reply, answer, refuse, leaves, andThen}
 use Rattle.refusals.proofs.ReplyLaws.{passed, same-answer, through, let-through}
 use Rattle.options.specs.declared.request.Request.{Request}
 use Rattle.options.specs.Wire.{optionLength}
@@ -23,9 +23,9 @@ use Rattle.ipv4.specs.Headers.{ipTtl}
 use Rattle.ipv4.specs.Checks.{headerChecked}
 use Rattle.ipv4.specs.Packets.{walked, located, passedOn}
 use Rattle.ipv4.specs.Views.{View, optionAt, requestAt, view, putRequest, put}
-use Rattle.ipv4.specs.Claims.{FitsWhere, Fits}
+use Rattle.ipv4.specs.Claims.{FitsWhere}
 use Rattle.ipv4.proofs.OptionLaws.{viewed-by}
-use Rattle.ipv4.proofs.Claims.{locating, viewing, forwarding}
+use Rattle.ipv4.proofs.Claims.{viewing, forwarding}
 use Rattle.ledger.specs.declared.Ledger.{Ledger}
 use Rattle.ledger.specs.Calls.{Link, linkInRange, Granted, askReply}
 use Rattle.ledger.specs.Replies.{codeIn, linkIn}
@@ -37,9 +37,9 @@ use Rattle.inspect.specs.Sights.{askingAt, requestOf, sighted}
 use Rattle.inspect.proofs.SightLaws.{room-of, request-kept}
 use Rattle.router.specs.declared.Decision.{Decision}
 use Rattle.router.specs.declared.Decision.the-variants as Decisions
-use Rattle.router.specs.Decisions.{decided, denial, writtenBy, over, requestAfter}
+use Rattle.router.specs.Decisions.{decided, denial, writtenBy, over}
 use Rattle.router.specs.Routers.{routerInRange, unexpired, routedView, routed, wishOf, ceilingFrom, Passage, passage, routedByLedger, ledgerRouter}
-use Rattle.router.specs.Parts.{met, metView, Readable, ReadableWhere, decisionWritten}
+use Rattle.router.specs.Parts.{met, metView, ReadableWhere, decisionWritten}
 use Rattle.router.proofs.DecisionLaws.{in-range, ranges, decided-fits}
 
 -- ---- the eight bytes lent

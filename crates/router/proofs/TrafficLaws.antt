@@ -1,6 +1,6 @@
 -- The allowance in the packets: each packet that a router with a ledger passes on is one call of its ledger or none, and carries the code that was granted or 0; so what the history
 -- theorem says of approvals holds of packets. Assumes nothing.
-use Prim.Native.Nat.{ℕ, zero, suc, _+_, _≤_, _<_, min}
+use Prim.Native.Nat.{ℕ, zero, suc, _+_, _≤_, min}
 use mathlib.Core.Bool.{Bool, true, false}
 use mathlib.Core.List.{List, [], _∷_, _++_}
 use mathlib.Core.Option.{Option, none, some}
@@ -8,7 +8,7 @@ use mathlib.Core.Path.{_≡_, refl, sym, ap, ap₂, subst, _∙_}
 use native.Mathlib.Nat.{zero-add}
 use native.Mathlib.Omega.{arith}
 use lib.Dec.{eqb}
-use borrow.Author.Tests.{eqb-true, eqb-false}
+use borrow.Author.Tests.{eqb-true}
 use lib.ListN.{length}
 use Rattle.common.specs.Choice.{pick}
 use Rattle.common.specs.Lists.{Bytes}
@@ -19,19 +19,17 @@ use Rattle.rates.specs.Steps.{rateOf}
 use Rattle.options.specs.declared.request.Request.{Request}
 use Rattle.ipv4.specs.Views.{View, view, put}
 use Rattle.ipv4.proofs.OptionLaws.{view-place}
-use Rattle.ledger.specs.declared.Ledger.{Ledger}
 use Rattle.ledger.specs.Rows.{total}
 use Rattle.ledger.specs.Calls.{Link, lent, Granted, askReply}
 use Rattle.ledger.specs.Replies.{codeIn, linkIn}
-use Rattle.ledger.specs.History.{ledgerCalls, Call, asking, Approval, Past, begun, afterAsking, after, afterAll, inLast, approvedLast}
+use Rattle.ledger.specs.History.{ledgerCalls, Call, asking, Past, begun, afterAsking, after, afterAll, inLast, approvedLast}
 use Rattle.ledger.proofs.Claims.{accepting}
 use Rattle.ledger.proofs.Claims as ledgers
 use Rattle.router.specs.declared.Decision.{Decision}
-use Rattle.router.specs.declared.Decision.the-variants as Decisions
-use Rattle.router.specs.Decisions.{decided, approvedAt, writtenBy, over, requestAfter}
+use Rattle.router.specs.Decisions.{decided, writtenBy, over, requestAfter}
 use Rattle.router.specs.Routers.{routedView, wishOf, ceilingFrom, Passage, passage, routedByLedger, ledgerRouter}
-use Rattle.router.specs.Traffic.{Arrival, OfBytes, Sent, Traffic, afterSaying, afterArrival, afterArrivals, codeOf, codeSeen, codeLeft, leftLast}
-use Rattle.router.specs.Claims.{opened, Accounted, AllowanceTheorem}
+use Rattle.router.specs.Traffic.{Arrival, OfBytes, Traffic, afterSaying, afterArrival, afterArrivals, codeOf, codeSeen, codeLeft, leftLast}
+use Rattle.router.specs.Claims.{opened, AllowanceTheorem}
 use Rattle.router.proofs.RouterLaws.{LedgerBy, ledger-by}
 use Rattle.router.proofs.HopLaws.{routed-changed}
 

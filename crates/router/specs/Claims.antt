@@ -24,9 +24,9 @@ use Rattle.ledger.specs.declared.Ledger.{Ledger}
 use Rattle.ledger.specs.Rows.{total}
 use Rattle.ledger.specs.Calls.{Link, lent, linkInRange, Granted, askReply}
 use Rattle.ledger.specs.Claims.{InRange}
-use Rattle.ledger.specs.History.{Outcome, ledgerCalls}
+use Rattle.ledger.specs.History.{ledgerCalls}
 use Rattle.router.specs.declared.Decision.the-variants as Decisions
-use Rattle.router.specs.Decisions.{decision, requestAfter}
+use Rattle.router.specs.Decisions.{decision}
 use Rattle.router.specs.Routers.{routerInRange, unexpired, routedView, routed, silentlyRouted, wishOf, ceilingFrom, Passage, passage, routedByLedger, ledgerRouter}
 use Rattle.router.specs.Traffic.{LedgerRouter, Arrival, OfBytes, Traffic, afterArrivals, leftLast}
 

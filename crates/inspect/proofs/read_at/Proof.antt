@@ -1,7 +1,6 @@
 -- `inspect::read_at` meets its contract: the eight bytes at the place are read as a request, or there is none. Assumes nothing.
 use Prim.Native.Nat.{_+_, _≤_}
-use mathlib.Core.Path.{_≡_, sym, ap, _∙_}
-use native.Mathlib.Omega.{arith}
+use mathlib.Core.Path.{sym, ap, _∙_}
 use lib.ListN.{length}
 use Rattle.options.specs.Replies.{requestTold}
 use Rattle.inspect.proofs.SightLaws.{read-other, read-request}

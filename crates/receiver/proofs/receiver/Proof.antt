@@ -3,7 +3,6 @@ use mathlib.Core.Bool.{true}
 use mathlib.Core.Path.{_≡_, sym, ap, _∙_}
 use lib.ListN.{length}
 use Rattle.common.proofs.Choice.{held, failed}
-use Rattle.refusals.specs.Reply.{answer}
 use Rattle.inspect.specs.Replies.{sightTold}
 use Rattle.receiver.specs.Reports.{receiverInRange, responseAfter}
 use Rattle.receiver.specs.Replies.{reactionIn}

@@ -1,7 +1,5 @@
 -- `router::answer_request` meets its contract: the decision on what is asked for is written, or nothing. Assumes nothing.
-use mathlib.Core.List.{List}
-use mathlib.Core.Path.{_≡_, sym, ap, _∙_}
-use Prim.Native.Nat.{ℕ}
+use mathlib.Core.Path.{sym, ap, _∙_}
 use lib.ListN.{length}
 use Rattle.walk.specs.declared.Place.the-variants.{At}
 use Rattle.ipv4.specs.Views.{putRequest}

@@ -1,6 +1,5 @@
 -- `router::meet` meets its contract: what is seen of the packet, and the test of its IP TTL. Assumes nothing.
 use mathlib.Core.Path.{sym, ap, _∙_}
-use native.Mathlib.Omega.{arith}
 use Rattle.inspect.specs.Replies.{sightTold}
 use Rattle.router.proofs.RouterLaws.{met-expired, met-refused, met-packet}
 use borrow.Author.Needs.{needs}

@@ -1,15 +1,15 @@
 -- `router::router_with_ledger` meets its contract: past the tests of its numbers it answers what it met, asks its ledger if there is something to ask, and sends the packet on with the grant. Assumes nothing.
 use mathlib.Core.Bool.{true}
 use mathlib.Core.List.{List}
-use mathlib.Core.Path.{_≡_, sym, ap, ap₂, _∙_}
+use mathlib.Core.Path.{_≡_, sym, ap, _∙_}
 use Prim.Native.Nat.{ℕ}
 use lib.ListN.{length}
 use Rattle.common.proofs.Choice.{held, failed}
 use Rattle.refusals.specs.Reply.{answer, leaves, done}
-use Rattle.ledger.specs.Calls.{Link, lent, linkInRange, askReply}
+use Rattle.ledger.specs.Calls.{lent, linkInRange, askReply}
 use Rattle.ledger.specs.Replies.{grantTold}
 use Rattle.inspect.specs.Sights.{requestOf}
-use Rattle.router.specs.Routers.{routerInRange, wishOf, Passage, passage}
+use Rattle.router.specs.Routers.{routerInRange, wishOf, passage}
 use Rattle.router.specs.Parts.{met}
 use Rattle.router.specs.Replies.{metTold}
 use Rattle.router.proofs.RouterLaws.{not-granted, is-granted, granted-range, ledger-seven, link-seven, ledger-refused, ledger-untouched, ledger-denied, ledger-granted}

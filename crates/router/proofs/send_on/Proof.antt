@@ -1,11 +1,10 @@
 -- `router::send_on` meets its contract: passing on what the decision left is never refused, and is the decision put into the view. Assumes nothing.
 use Prim.Native.Nat.{ℕ}
 use mathlib.Core.List.{List}
-use mathlib.Core.Path.{_≡_, sym, ap, _∙_}
+use mathlib.Core.Path.{ap, _∙_}
 use native.Mathlib.Omega.{arith}
 use lib.ListN.{length}
-use Rattle.common.specs.Lists.{Bytes}
-use Rattle.refusals.specs.Reply.{Reply, answer, leaves}
+use Rattle.refusals.specs.Reply.{leaves}
 use Rattle.ipv4.specs.Packets.{passedOn}
 use Rattle.router.specs.Parts.{decisionWritten}
 use Rattle.router.proofs.RouterLaws.{met-readable, sent, written-long}

@@ -1,0 +1,38 @@
+-- What is claimed of the exported functions' results: each answer has a number of its own, and which numbers a function can give. Assumes nothing.
+use Prim.Native.Nat.{ℕ}
+use mathlib.Core.Bool.{Bool, true, false, _||_}
+use mathlib.Core.List.{List, [], _∷_}
+use mathlib.Core.Path.{_≡_}
+use lib.Dec.{eqb}
+use lib.ListN.{length}
+use Rattle.refusals.specs.Reply.{done}
+use Rattle.ipv4.specs.declared.ecn.Marking.{Marking}
+use Rattle.ipv4.specs.Marks.{markReply}
+use Rattle.ipv4.specs.Replies.{markTold}
+use Rattle.router.specs.declared.Routed.{Routed}
+use Rattle.router.specs.Routers.{routed, silentlyRouted, Passage, ledgerRouter}
+use Rattle.router.specs.Replies.{routedTold}
+use Rattle.receiver.specs.declared.Received.{Received}
+use Rattle.receiver.specs.Reports.{received}
+use Rattle.receiver.specs.Replies.{reactionIn, receivedTold}
+use Rattle.gateway.specs.Results.{routerResult, receiverResult, markResult}
+
+-- no two answers of a function share a number
+pub record Apart : Type 0 where
+  pub routers : (a b : Routed) → routerResult (routedTold a) ≡ routerResult (routedTold b) → a ≡ b
+  pub receivers : (a b : Received) → receiverResult (receivedTold a) ≡ receiverResult (receivedTold b) → a ≡ b
+  pub marks : (a b : Marking) → markResult (markTold a) ≡ markResult (markTold b) → a ≡ b
+
+-- a number is one of a list
+abbrev pub among : List ℕ → ℕ → Bool
+among [] n = false
+among (m ∷ rest) n = eqb n m || among rest n
+
+-- the numbers that each function can give: 0 for what was done, the refusals that it tests, and 40 or 41
+pub record Possible : Type 0 where
+  pub router : (ceiling fresh : ℕ) (packet : List ℕ) → among (0 ∷ 1 ∷ 2 ∷ 3 ∷ 5 ∷ 6 ∷ 7 ∷ []) (routerResult (done (routed (length packet) ceiling fresh packet))) ≡ true
+  pub router-ledger : (ceiling fresh tick : ℕ) (p : Passage) → among (0 ∷ 1 ∷ 2 ∷ 3 ∷ 5 ∷ 6 ∷ 7 ∷ 8 ∷ 9 ∷ []) (routerResult (ledgerRouter ceiling fresh tick p .said)) ≡ true
+  pub silent-router : (packet : List ℕ) → among (0 ∷ 1 ∷ 2 ∷ 6 ∷ []) (routerResult (done (silentlyRouted (length packet) packet))) ≡ true
+  pub receiver : (ceiling room : ℕ) (packet : List ℕ)
+      → among (0 ∷ 1 ∷ 2 ∷ 3 ∷ 4 ∷ 5 ∷ 7 ∷ 40 ∷ []) (receiverResult (reactionIn (received (length packet) ceiling room packet))) ≡ true
+  pub mark : (packet : List ℕ) → among (0 ∷ 1 ∷ 2 ∷ 41 ∷ []) (markResult (markReply packet)) ≡ true
