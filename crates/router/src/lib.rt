@@ -155,6 +155,24 @@ fn send_on(packet: &mut [u8], asking: Asking, ceiling: u32, fresh: u32)
     pass_on(packet);
 }
 
+// The same, made anew field by field: what `look` has stored field by field is not waited for, as it would be by
+// a copy in one piece.
+fn field_by_field(asking: Asking) -> Asking
+    ensures { λ r. ⌜ r ≡ asking ⌝ }
+{
+    match asking {
+        Asking::Nothing => Asking::Nothing,
+        Asking::Rate(place, request) => Asking::Rate(
+            place,
+            Request {
+                rate: request.rate,
+                qs_ttl: request.qs_ttl,
+                nonce: request.nonce,
+            },
+        ),
+    }
+}
+
 // Looks at a packet, and tests that its IP TTL lets it be passed on.
 fn meet(packet: &[u8]) -> Met
     ensures { λ r. ⌜ metTold r ≡ met (length (now (packet .entry))) (now (packet .entry)) ⌝ }
@@ -166,7 +184,7 @@ fn meet(packet: &[u8]) -> Met
                 return Met::Refused(Refusal::TtlExpired);
             }
             let asking = seen.asking;
-            Met::Packet(asking)
+            Met::Packet(field_by_field(asking))
         }
     }
 }

@@ -17,7 +17,13 @@ use Rattle.options.specs.Wire.{optionLength, kindIn, lengthIn}
 use Rattle.options.specs.Requests.{requestKind}
 use Rattle.walk.specs.declared.Place.{Place}
 use Rattle.walk.specs.declared.Place.the-variants.{Nowhere, At}
+use Rattle.walk.specs.Parts.{placeOf, isFound, offsetOf}
 use Rattle.walk.specs.Walks.{Next, end, fault, past, endKind, noOperation, lengthFits, look, goOn, walkOn, walk}
+
+-- a place as a flag and an offset is that place again
+pub place-kept : (place : Place) → placeOf (isFound place) (offsetOf place) ≡ place
+place-kept Nowhere = refl
+place-kept (At o) = refl
 
 -- with less than two bytes left no length fits: the length byte is missing, and reads as 0
 pub no-room : (left : List ℕ) → length left < 2 → lengthFits left ≡ false

@@ -3,6 +3,7 @@ ghost use mathlib.Core.Path.{_≡_};
 ghost use Prim.Native.Nat.{_<_};
 ghost use lib.ListN.{length};
 ghost use Rattle.walk.specs.Walks.{look, walk};
+ghost use Rattle.walk.specs.Parts.{placeOf, isFound, offsetOf};
 ghost use Rattle.walk.specs.Replies.{stepTold, findingTold};
 use options::OPTION_LENGTH;
 use options::request::REQUEST;
@@ -74,13 +75,46 @@ fn look(left: &[u8], at: usize, place: Place) -> Step
     }
 }
 
-// Walks an options area from its first byte to its end, a fault or its last byte.
+// A place, by whether there is one, and its offset where there is.
+fn place_of(found: bool, offset: usize) -> Place
+    ensures { λ r. ⌜ r ≡ placeOf found offset ⌝ }
+{
+    if found {
+        return Place::At(offset);
+    }
+    Place::Nowhere
+}
+
+fn is_found(place: Place) -> bool
+    ensures { λ r. ⌜ r ≡ isFound place ⌝ }
+{
+    match place {
+        Place::Nowhere => false,
+        Place::At(_) => true,
+    }
+}
+
+// The offset of a place, and 0 where there is none.
+fn offset_of(place: Place) -> usize
+    ensures { λ r. ⌜ r ≡ offsetOf place ⌝ }
+{
+    match place {
+        Place::Nowhere => 0,
+        Place::At(offset) => offset,
+    }
+}
+
+// Walks an options area from its first byte to its end, a fault or its last byte. What has been found is kept
+// in a flag and an offset from option to option: carried as a `Place` it would take two copies of its
+// padding for each option.
 pub fn find(area: &[u8]) -> Finding
     ensures { λ r. ⌜ findingTold r ≡ walk (now (area .entry)) ⌝ }
 {
-    let mut place = Place::Nowhere;
+    let mut found = false;
+    let mut offset = 0;
     let mut at = 0;
     'walk: loop {
+        let place = place_of(found, offset);
         if at >= area.len() {
             break Finding::Found(place);
         }
@@ -88,10 +122,11 @@ pub fn find(area: &[u8]) -> Finding
             Step::End => break Finding::Found(place),
             Step::Fault(why) => break 'walk Finding::Refused(why),
             Step::Past {
-                place: found,
+                place: now_at,
                 length,
             } => {
-                place = found;
+                found = is_found(now_at);
+                offset = offset_of(now_at);
                 at += length;
             }
         }
