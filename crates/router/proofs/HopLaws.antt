@@ -7,7 +7,7 @@ use mathlib.Core.Option.{Option, none, some}
 use mathlib.Core.Path.{_≡_, refl, sym, ap, ap₂, subst, _∙_}
 use native.Mathlib.Omega.{arith}
 use borrow.Author.Tests.{le-leb, lt-leb}
-use lib.ListN.{getD}
+use lib.ListN.{getD, set}
 use Rattle.common.specs.Lists.{Bytes}
 use Rattle.common.proofs.Choice.{chosen}
 use Rattle.refusals.specs.Reply.{Reply, answer, refuse, andThen}
@@ -17,15 +17,16 @@ use Rattle.options.specs.Wire.{reservedIn}
 use Rattle.options.proofs.Claims.{lowering}
 use Rattle.walk.specs.declared.Place.{Place}
 use Rattle.walk.specs.declared.Place.the-variants.{Nowhere, At}
-use Rattle.ipv4.specs.Headers.{headerLength}
+use Rattle.ipv4.specs.Headers.{ttlPlace, ipTtl, headerLength}
+use Rattle.ipv4.specs.Checksums.{sealed}
 use Rattle.ipv4.specs.Checks.{headerChecked}
 use Rattle.ipv4.specs.Packets.{walked, located, passedOn}
 use Rattle.ipv4.specs.Views.{View, optionAt, view, put}
 use Rattle.ipv4.specs.Claims.{OutsideRequest, Changed}
 use Rattle.ipv4.proofs.HeaderLaws.{good}
 use Rattle.ipv4.proofs.OptionLaws.{view-place}
-use Rattle.ipv4.proofs.ReadLaws.{passed-of}
-use Rattle.ipv4.proofs.Claims.{reading, viewing, forwarding}
+use Rattle.ipv4.proofs.ReadLaws.{passed-of, passed-is, ttl-form}
+use Rattle.ipv4.proofs.Claims.{sealing, reading, viewing, forwarding}
 use Rattle.router.specs.declared.Decision.{Decision}
 use Rattle.router.specs.declared.Decision.the-variants as Decisions
 use Rattle.router.specs.Decisions.{oneLess, approvedAt, decided, writtenBy, over, requestAfter}
@@ -98,6 +99,7 @@ changed-passed reach packet place old new l e h t c =
       others = others;
       long = c .long;
       bytes = c .bytes;
+      written = c .sealed-still;
     }
 
 pub routed-changed : (reach ceiling fresh : ℕ) (packet : List ℕ) (place : Place) (v : View) → Bytes packet → located reach packet ≡ answer place → view reach packet ≡ answer v
@@ -129,6 +131,9 @@ silent-passed reach packet new b e =
       others = λ i n c d o. forwarding .others reach packet new p i n (c, d);
       long = forwarding .long reach packet new p;
       bytes = forwarding .bytes reach packet new b p;
+      written =
+          let is = passed-is reach packet new p in
+          ap sealed (is .2) ∙ sealing .again reach (set packet ttlPlace (ipTtl packet - 1)) (ttl-form reach packet (ipTtl packet - 1) .0 ∙ is .0) ∙ sym (is .2);
     }
 
 pub silent-six : (reach h : ℕ) (packet : List ℕ) → headerChecked reach packet ≡ answer h → getD packet 8 0 ≤ 1 → silentlyRouted reach packet ≡ refuse 6

@@ -17,6 +17,7 @@ use Rattle.options.specs.Claims.{Kept}
 use Rattle.walk.specs.declared.Place.{Place}
 use Rattle.walk.specs.declared.Place.the-variants.{Nowhere, At}
 use Rattle.ipv4.specs.Headers.{headerLength}
+use Rattle.ipv4.specs.Checksums.{sealed}
 use Rattle.ipv4.specs.Checks.{headerChecked}
 use Rattle.ipv4.specs.Packets.{located}
 use Rattle.ipv4.specs.Views.{View, optionAt, view, put}
@@ -75,6 +76,8 @@ pub record PassedOn (reach : ℕ) (packet new : List ℕ) (Outside : ℕ → Typ
   pub others : (i : ℕ) → (i ≡ 8 → ⊥) → (i ≡ 10 → ⊥) → (i ≡ 11 → ⊥) → Outside i → getD new i 0 ≡ getD packet i 0
   pub long : length new ≡ length packet
   pub bytes : Bytes new
+  -- "written anew": its checksum is the one that sealing writes
+  pub written : sealed new ≡ new
 
 -- outside the six bytes behind the length of the option, where there is one; and every place
 abbrev pub OutsideOption : Place → ℕ → Type 0
@@ -101,11 +104,11 @@ pub record Passing (router : Router) : Type 0 where
       → reservedIn (optionAt place new) ≡ reservedIn (optionAt place packet)
 
 -- "A silent router does the IP part only": 1 and 2, then 6, and never 3 or 5
-pub record Silence : Type 0 where
-  pub faulty : (reach n : ℕ) (packet : List ℕ) → headerChecked reach packet ≡ refuse n → silentlyRouted reach packet ≡ refuse n
-  pub six : (reach h : ℕ) (packet : List ℕ) → headerChecked reach packet ≡ answer h → getD packet 8 0 ≤ 1 → silentlyRouted reach packet ≡ refuse 6
-  pub accepted : (reach h : ℕ) (packet : List ℕ) → headerChecked reach packet ≡ answer h → 1 < getD packet 8 0 → (new : List ℕ) × (silentlyRouted reach packet ≡ answer new)
-  pub always : (reach : ℕ) (packet new : List ℕ) → Bytes packet → silentlyRouted reach packet ≡ answer new → PassedOn reach packet new Anywhere
+pub record Silence (silent : ℕ → List ℕ → Reply (List ℕ)) : Type 0 where
+  pub faulty : (reach n : ℕ) (packet : List ℕ) → headerChecked reach packet ≡ refuse n → silent reach packet ≡ refuse n
+  pub six : (reach h : ℕ) (packet : List ℕ) → headerChecked reach packet ≡ answer h → getD packet 8 0 ≤ 1 → silent reach packet ≡ refuse 6
+  pub accepted : (reach h : ℕ) (packet : List ℕ) → headerChecked reach packet ≡ answer h → 1 < getD packet 8 0 → (new : List ℕ) × (silent reach packet ≡ answer new)
+  pub always : (reach : ℕ) (packet new : List ℕ) → Bytes packet → silent reach packet ≡ answer new → PassedOn reach packet new Anywhere
 
 -- ---- one hop
 
@@ -134,6 +137,12 @@ pub record OneHop (router : Router) : Type 0 where
   pub approves : (reach ceiling fresh place ttl : ℕ) (packet : List ℕ) (r : Request) → Given ceiling fresh → Carries reach packet place ttl r → 1 < ttl → 1 ≤ r .rate → 1 ≤ ceiling
       → (new : Request) × Approves r ceiling fresh new × Leaves reach packet place (ttl - 1) new (router reach ceiling fresh packet)
 
+-- whatever router has these three is ours, on every packet of bytes; and whatever silent router has the one above
+pub record RoutingOnly : Type 0 where
+  pub one-router : (router : Router) → Testing router → Passing router → OneHop router → (reach ceiling fresh : ℕ) (packet : List ℕ) → Bytes packet
+      → router reach ceiling fresh packet ≡ routed reach ceiling fresh packet
+  pub one-silent : (silent : ℕ → List ℕ → Reply (List ℕ)) → Silence silent → (reach : ℕ) (packet : List ℕ) → Bytes packet → silent reach packet ≡ silentlyRouted reach packet
+
 -- a silent router changes the first of the four numbers alone
 pub record SilentHop : Type 0 where
   pub expired : (reach place ttl : ℕ) (packet : List ℕ) (r : Request) → Carries reach packet place ttl r → ttl ≤ 1 → silentlyRouted reach packet ≡ refuse 6
@@ -158,20 +167,25 @@ pub record AtCeiling (reach ceiling fresh : ℕ) (packet : List ℕ) (link : Lin
   pub replied : reply ≡ answer (passage new link)
 
 -- "A router with a ledger tests 7 for all, the packet, then 8 and 9 if it asks the ledger."
-pub record WithLedger : Type 0 where
-  pub seven : (reach ceiling fresh tick : ℕ) (p : Passage) → (AllGiven ceiling fresh p → ⊥) → routedByLedger reach ceiling fresh tick p ≡ refuse 7
-  pub faulty : (reach ceiling fresh tick n : ℕ) (p : Passage) → AllGiven ceiling fresh p → located reach (p .packet) ≡ refuse n → routedByLedger reach ceiling fresh tick p ≡ refuse n
+pub record LedgerRouting (router : ℕ → ℕ → ℕ → ℕ → Passage → Reply Passage) : Type 0 where
+  pub seven : (reach ceiling fresh tick : ℕ) (p : Passage) → (AllGiven ceiling fresh p → ⊥) → router reach ceiling fresh tick p ≡ refuse 7
+  pub faulty : (reach ceiling fresh tick n : ℕ) (p : Passage) → AllGiven ceiling fresh p → located reach (p .packet) ≡ refuse n → router reach ceiling fresh tick p ≡ refuse n
   pub six : (reach ceiling fresh tick : ℕ) (p : Passage) (place : Place) → AllGiven ceiling fresh p → located reach (p .packet) ≡ answer place → getD (p .packet) 8 0 ≤ 1
-      → routedByLedger reach ceiling fresh tick p ≡ refuse 6
+      → router reach ceiling fresh tick p ≡ refuse 6
   -- "asks it for the lesser of rate and ceiling and takes the grant as its ceiling"; 8 and 9 are the ledger's
   pub not-granted : (reach ceiling fresh tick ttl n : ℕ) (p : Passage) (r : Request) → AllGiven ceiling fresh p → view reach (p .packet) ≡ answer (record { ttl = ttl; request = some r })
-      → 1 < ttl → 1 ≤ r .rate → 1 ≤ ceiling → askReply (p .link) tick (min (r .rate) ceiling) ≡ refuse n → routedByLedger reach ceiling fresh tick p ≡ refuse n
+      → 1 < ttl → 1 ≤ r .rate → 1 ≤ ceiling → askReply (p .link) tick (min (r .rate) ceiling) ≡ refuse n → router reach ceiling fresh tick p ≡ refuse n
   pub granted : (reach ceiling fresh tick ttl : ℕ) (p : Passage) (r : Request) (g : Granted) → AllGiven ceiling fresh p
       → view reach (p .packet) ≡ answer (record { ttl = ttl; request = some r }) → 1 < ttl → 1 ≤ r .rate → 1 ≤ ceiling → askReply (p .link) tick (min (r .rate) ceiling) ≡ answer g
-      → AtCeiling reach (g .code) fresh (p .packet) (g .link) (routedByLedger reach ceiling fresh tick p)
+      → AtCeiling reach (g .code) fresh (p .packet) (g .link) (router reach ceiling fresh tick p)
   -- "the ledger is untouched"
   pub not-asked : (reach ceiling fresh tick : ℕ) (p : Passage) (v : View) → AllGiven ceiling fresh p → view reach (p .packet) ≡ answer v → 1 < v .ttl → AsksNoLedger ceiling (v .request)
-      → AtCeiling reach ceiling fresh (p .packet) (p .link) (routedByLedger reach ceiling fresh tick p)
+      → AtCeiling reach ceiling fresh (p .packet) (p .link) (router reach ceiling fresh tick p)
+
+pub record WithLedger : Type 0 where
+  -- these leave one router only
+  pub only : (router : ℕ → ℕ → ℕ → ℕ → Passage → Reply Passage) → LedgerRouting router → (reach ceiling fresh tick : ℕ) (p : Passage)
+      → router reach ceiling fresh tick p ≡ routedByLedger reach ceiling fresh tick p
   -- whatever was asked, the packet is one that a router without a ledger leaves, at a ceiling that is not above its own
   pub as-router : (reach ceiling fresh tick : ℕ) (p new : Passage) → routedByLedger reach ceiling fresh tick p ≡ answer new
       → (code : ℕ) × (code ≤ ceiling) × (routed reach code fresh (p .packet) ≡ answer (new .packet))
@@ -230,9 +244,6 @@ pub record ShutOut : Type 0 where
   pub otherwise-ours : ledgerRouterBy wishOf (λ ceiling grant. grant) ≡ ledgerRouter
   pub touches-nothing : Passing touchingNothing → ⊥
   pub touches-nothing-hop : OneHop touchingNothing → ⊥
-  -- whatever router has one hop as stated leaves, of every packet that carries a request, the four numbers that ours leaves
-  pub other-numbers : (router : Router) → OneHop router → (reach ceiling fresh place ttl : ℕ) (packet new : List ℕ) (r : Request) → Given ceiling fresh → Carries reach packet place ttl r
-      → router reach ceiling fresh packet ≡ answer new → view reach new ≡ answer (routedView ceiling fresh (record { ttl = ttl; request = some r }))
   -- one that asks its ledger and decides by its own ceiling, and one that asks for the rate where the ceiling is less
   pub ignores-the-grant : Allowance (ledgerRouterBy wishOf (λ ceiling grant. ceiling)) → ⊥
   pub asks-the-rate : Allowance (ledgerRouterBy askingTheRate min) → ⊥
