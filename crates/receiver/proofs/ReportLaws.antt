@@ -18,14 +18,14 @@ use Rattle.receiver.specs.Reports.{ttlDiff, Report, unanswered, reported
 -- ---- which report it is
 
 module _ (ceiling ttl : ℕ) (r : Request) where
-  pub no-report : min (r .rate) ceiling ≡ 0 → unanswered ≡ reportOn ceiling ttl r
-  unfolding reportOn
-  no-report e = simp (eq-eqb (min (r .rate) ceiling) 0 e)
-
   pub report-is : (min (r .rate) ceiling ≡ 0 → ⊥)
       → reported (record { rate = min (r .rate) ceiling; «ttl_diff» = ttlDiff ttl (r .«qs_ttl»); nonce = r .nonce }) ≡ reportOn ceiling ttl r
   unfolding reportOn
   report-is n = simp (ne-eqb (min (r .rate) ceiling) 0 n)
+
+  pub no-report : min (r .rate) ceiling ≡ 0 → unanswered ≡ reportOn ceiling ttl r
+  unfolding reportOn
+  no-report e = simp (eq-eqb (min (r .rate) ceiling) 0 e)
 
   -- by what the callees answered
   pub report-by : (rate diff : ℕ) → rate ≡ min (r .rate) ceiling → (rate ≡ 0 → ⊥) → (diff + r .«qs_ttl») % 2 ^ 8 ≡ ttl → diff < 256 → r .«qs_ttl» < 256

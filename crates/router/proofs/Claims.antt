@@ -29,7 +29,7 @@ use Rattle.ipv4.specs.Packets.{walked, located}
 use Rattle.ipv4.specs.Views.{View, optionAt, requestAt, view, put}
 use Rattle.ipv4.proofs.HeaderLaws.{Good, good}
 use Rattle.ipv4.proofs.OptionLaws.{found, viewed-by}
-use Rattle.ipv4.proofs.Claims.{viewing, forwarding}
+use Rattle.ipv4.proofs.Claims.{viewing}
 use Rattle.ledger.specs.Rows.{passed, movedOn, charged}
 use Rattle.ledger.specs.Calls.{Link, linkInRange, grantOf, Granted, askReply}
 use Rattle.ledger.specs.History.{inLast}
@@ -42,7 +42,7 @@ use Rattle.router.specs.Claims.{Deciding, Router, Given, Testing, Passed
 use Rattle.router.specs.Traffic.{Arrival}
 use Rattle.router.proofs.DecisionLaws.{nothing-decided}
 use Rattle.router.proofs.RouterLaws.{routed-seven, wish-low, asked-for, ledger-by, from-ledger}
-use Rattle.router.proofs.HopLaws.{ok-given, given-ok, not-given, routed-fault, routed-six, routed-view, ttl-shown, routed-passed, routed-reserved, silent-passed, silent-six, silent-accepted, untouched-passed, hop, silent-hop, denied-at, approved-at, approves-it, approves-only}
+use Rattle.router.proofs.HopLaws.{ok-given, given-ok, not-given, routed-fault, routed-six, routed-view, ttl-shown, routed-passed, routed-reserved, silent-faulty, silent-passed, silent-six, silent-accepted, untouched-passed, hop, silent-hop, denied-at, approved-at, approves-it, approves-only}
 use Rattle.router.proofs.OnlyLaws.{same-packet, six-alike}
 use Rattle.router.proofs.TrafficLaws as traffic
 
@@ -68,7 +68,7 @@ pub passing : Passing routed
 passing = record { always = routed-passed; untouched = untouched-passed; reserved = routed-reserved }
 
 pub silence : Silence silentlyRouted
-silence = record { faulty = forwarding .not-forwarded; six = silent-six; accepted = silent-accepted; always = silent-passed }
+silence = record { faulty = silent-faulty; six = silent-six; accepted = silent-accepted; always = silent-passed }
 
 -- ---- one hop
 

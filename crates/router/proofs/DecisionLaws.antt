@@ -42,13 +42,13 @@ module _ (ceiling fresh : ℕ) (r : Request) where
   unfolding decided
   nothing-decided e = simp (eq-eqb (r .rate) 0 e)
 
-  pub denied : (r .rate ≡ 0 → ⊥) → min (r .rate) ceiling ≡ 0 → Denied ≡ decided ceiling fresh r
-  unfolding decided
-  denied n e = simp (ne-eqb (r .rate) 0 n, eq-eqb (min (r .rate) ceiling) 0 e)
-
   pub approved : (r .rate ≡ 0 → ⊥) → (min (r .rate) ceiling ≡ 0 → ⊥) → Approved (approvedAt (min (r .rate) ceiling) fresh r) ≡ decided ceiling fresh r
   unfolding decided
   approved n m = simp (ne-eqb (r .rate) 0 n, ne-eqb (min (r .rate) ceiling) 0 m)
+
+  pub denied : (r .rate ≡ 0 → ⊥) → min (r .rate) ceiling ≡ 0 → Denied ≡ decided ceiling fresh r
+  unfolding decided
+  denied n e = simp (ne-eqb (r .rate) 0 n, eq-eqb (min (r .rate) ceiling) 0 e)
 
   -- by what the callees answered
   module _ (rate : ℕ) (least : rate ≡ min (r .rate) ceiling) (fits : r .rate ≤ topCode) (nonce-fits : r .nonce < nonceLimit) (ok : InRange ceiling fresh) where
@@ -86,14 +86,6 @@ decided-fits ceiling fresh r f =
       nonce-fits = lowering .in-range (r .rate) (min (r .rate) ceiling) (r .nonce) fresh (f .rate-fits) (f .nonce-fits);
     }))
 
-over-fits : (new old : Option Request) → FitsWhere new → FitsWhere old → FitsWhere (over new old)
-over-fits none old n o = o
-over-fits (some r) old n o = n
-
-pub after-fits : (ceiling fresh : ℕ) (x : Option Request) → FitsWhere x → FitsWhere (requestAfter ceiling fresh x)
-after-fits ceiling fresh none f = tt
-after-fits ceiling fresh (some r) f = over-fits (writtenBy (decided ceiling fresh r)) (some r) (decided-fits ceiling fresh r f) f
-
 over-asks : (new : Option Request) (r : Request) → asks (over new (some r)) ≡ true
 over-asks none r = refl
 over-asks (some q) r = refl
@@ -102,6 +94,14 @@ over-asks (some q) r = refl
 pub asks-kept : (ceiling fresh : ℕ) (x : Option Request) → asks x ≡ asks (requestAfter ceiling fresh x)
 asks-kept ceiling fresh none = refl
 asks-kept ceiling fresh (some r) = sym (over-asks (writtenBy (decided ceiling fresh r)) r)
+
+over-fits : (new old : Option Request) → FitsWhere new → FitsWhere old → FitsWhere (over new old)
+over-fits none old n o = o
+over-fits (some r) old n o = n
+
+pub after-fits : (ceiling fresh : ℕ) (x : Option Request) → FitsWhere x → FitsWhere (requestAfter ceiling fresh x)
+after-fits ceiling fresh none f = tt
+after-fits ceiling fresh (some r) f = over-fits (writtenBy (decided ceiling fresh r)) (some r) (decided-fits ceiling fresh r f) f
 
 pub routed-fits : (ceiling fresh : ℕ) (v : View) → Fits v → Fits (routedView ceiling fresh v)
 routed-fits ceiling fresh v f = record { ttl-small = let h = f .ttl-small in omega arith; request-fits = after-fits ceiling fresh (v .request) (f .request-fits) }

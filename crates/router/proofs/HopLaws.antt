@@ -122,6 +122,9 @@ routed-reserved reach ceiling fresh place packet new b l e =
 
 -- ---- a silent router
 
+pub silent-faulty : (reach n : ℕ) (packet : List ℕ) → headerChecked reach packet ≡ refuse n → silentlyRouted reach packet ≡ refuse n
+silent-faulty = forwarding .not-forwarded
+
 pub silent-passed : (reach : ℕ) (packet new : List ℕ) → Bytes packet → silentlyRouted reach packet ≡ answer new → PassedOn reach packet new Anywhere
 silent-passed reach packet new b e =
     let p = through (headerChecked reach packet) (λ header. passedOn reach packet) new e .2 in

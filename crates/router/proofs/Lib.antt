@@ -4,3 +4,4 @@ pub mod HopLaws
 pub mod OnlyLaws
 pub mod TrafficLaws
 pub mod Claims
+pub mod KeptLaws

@@ -320,13 +320,3 @@ from-ledger ceiling tick (suc wish) link g low e =
     let a = accepting .ask link tick (suc wish) g e in
     let up = a .2 .rule .up-to in
     (omega arith, ap (λ (x : Ledger). x .allowance) (a .2 .ledger-is) ∙ a .1 .allowance-is)
-
-pub allowance-left : (ceiling fresh tick : ℕ) (p : Passage) → ledgerRouter ceiling fresh tick p .left .link .ledger .allowance ≡ p .link .ledger .allowance
-allowance-left ceiling fresh tick p = go (routedByLedger (length (p .packet)) ceiling fresh tick p) refl
-  where
-    go : (r : Reply Passage) → routedByLedger (length (p .packet)) ceiling fresh tick p ≡ r → leaves p r .link .ledger .allowance ≡ p .link .ledger .allowance
-    go (refuse n) e = refl
-    go (answer new) e =
-        let b = ledger-by (length (p .packet)) ceiling fresh tick p new e in
-        ap (λ (q : Passage). q .link .ledger .allowance) (b .is)
-        ∙ from-ledger ceiling tick (wishOf ceiling (b .seen .request)) (p .link) (b .grant) (wish-low ceiling (b .seen .request)) (b .granted) .1

@@ -2,7 +2,7 @@
 use Prim.Native.Nat.{ℕ}
 use mathlib.Core.Path.{sym, ap, _∙_}
 use Rattle.router.specs.Routers.{Passage}
-use Rattle.router.proofs.RouterLaws.{allowance-left}
+use Rattle.router.proofs.KeptLaws.{allowance-left}
 use Rattle.gateway.specs.Results.{routerResult, lentByC}
 use borrow.Author.Needs.{needs}
 use Rattle.gateway.proofs.qs_router_ledger.Statement.{statement}
