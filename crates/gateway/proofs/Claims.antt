@@ -38,7 +38,29 @@ use Rattle.receiver.specs.declared.Received.the-variants as Receivings
 use Rattle.receiver.specs.Reports.{Report, unanswered, reported, receiverInRange, reportReply, received}
 use Rattle.receiver.specs.Replies.{reactionIn, receivedTold}
 use Rattle.gateway.specs.Results.{routerResult, receiverResult, markResult}
-use Rattle.gateway.specs.Claims.{Apart, among, Possible}
+use Rattle.gateway.specs.Claims.{Numbered, Lending, Apart, among, Possible}
+
+-- ---- each number, and what is lent
+
+pub numbered : Numbered
+numbered = record {
+  forwarded = λ new. refl;
+  not-forwarded = λ n. refl;
+  answered = λ r. refl;
+  not-answered = refl;
+  not-received = λ n. refl;
+  is-marked = refl;
+  is-dropped = refl;
+  not-marked = λ n. refl;
+}
+
+pub lending : Lending
+lending = record {
+  packet-is = λ packet row tick allowance. refl;
+  row-is = λ packet row tick allowance. refl;
+  tick-is = λ packet row tick allowance. refl;
+  allowance-is = λ packet row tick allowance. refl;
+}
 
 -- ---- numbers apart
 

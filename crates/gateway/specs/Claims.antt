@@ -5,17 +5,36 @@ use mathlib.Core.List.{List, [], _∷_}
 use mathlib.Core.Path.{_≡_}
 use lib.Dec.{eqb}
 use lib.ListN.{length}
-use Rattle.refusals.specs.Reply.{done}
+use Rattle.refusals.specs.Reply.{answer, refuse, done}
+use Rattle.options.specs.declared.response.Response.{Response}
 use Rattle.ipv4.specs.declared.ecn.Marking.{Marking}
-use Rattle.ipv4.specs.Marks.{markReply}
+use Rattle.ipv4.specs.Marks.{marked, dropped, markReply}
 use Rattle.ipv4.specs.Replies.{markTold}
 use Rattle.router.specs.declared.Routed.{Routed}
 use Rattle.router.specs.Routers.{routed, silentlyRouted, Passage, ledgerRouter}
 use Rattle.router.specs.Replies.{routedTold}
 use Rattle.receiver.specs.declared.Received.{Received}
-use Rattle.receiver.specs.Reports.{received}
+use Rattle.receiver.specs.Reports.{unanswered, reported, received}
 use Rattle.receiver.specs.Replies.{reactionIn, receivedTold}
-use Rattle.gateway.specs.Results.{routerResult, receiverResult, markResult}
+use Rattle.gateway.specs.Results.{routerResult, receiverResult, markResult, lentByC}
+
+-- the number of each answer
+pub record Numbered : Type 0 where
+  pub forwarded : (new : List ℕ) → routerResult (done (answer new)) ≡ 0
+  pub not-forwarded : (n : ℕ) → routerResult (refuse n) ≡ n
+  pub answered : (r : Response) → receiverResult (reactionIn (answer (reported r))) ≡ 0
+  pub not-answered : receiverResult (reactionIn (answer unanswered)) ≡ 40
+  pub not-received : (n : ℕ) → receiverResult (reactionIn (refuse n)) ≡ n
+  pub is-marked : markResult (answer marked) ≡ 0
+  pub is-dropped : markResult (answer dropped) ≡ 41
+  pub not-marked : (n : ℕ) → markResult (refuse n) ≡ n
+
+-- what C lends to a router with a ledger, part by part
+pub record Lending : Type 0 where
+  pub packet-is : (packet row : List ℕ) (tick allowance : ℕ) → lentByC packet row tick allowance .packet ≡ packet
+  pub row-is : (packet row : List ℕ) (tick allowance : ℕ) → lentByC packet row tick allowance .link .row ≡ row
+  pub tick-is : (packet row : List ℕ) (tick allowance : ℕ) → lentByC packet row tick allowance .link .ledger .tick ≡ tick
+  pub allowance-is : (packet row : List ℕ) (tick allowance : ℕ) → lentByC packet row tick allowance .link .ledger .allowance ≡ allowance
 
 -- no two answers of a function share a number
 pub record Apart : Type 0 where

@@ -1,4 +1,4 @@
-// The functions exported to C forwarding loops, each by a number for its answer: 0 for what was done, 1 to 15 for the
+// The functions exported to C forwarding loops. Each answers with a number: 0 for what was done, 1 to 15 for the
 // refusals of the table, 40 for a receiver that leaves a request unanswered, 41 for a packet that marking would drop.
 ghost use mathlib.Core.Path.{_≡_};
 ghost use lib.ListN.{length};

@@ -12,7 +12,7 @@ use Rattle.walk.specs.declared.Place.the-variants.{Nowhere, At}
 use Rattle.ipv4.specs.Headers.{ipTtl}
 use Rattle.ipv4.specs.Packets.{located}
 use Rattle.ipv4.specs.Views.{View, requestAt}
-use Rattle.inspect.specs.declared.Asking.the-variants.{Rate}
+use Rattle.inspect.specs.declared.Asking.the-variants.{For}
 use Rattle.inspect.specs.declared.Seen.{Seen}
 use Rattle.inspect.specs.Sights.{askingAt, viewOf}
 use Rattle.inspect.specs.Claims.{Looking}
@@ -28,7 +28,7 @@ views-by : (packet : List ℕ) (reply : Reply Place) → andThen (andThen reply 
 views-by packet (answer place) = ap (λ (x : Option Request). answer (record { ttl = ipTtl packet; request = x })) (request-kept place packet)
 views-by packet (refuse n) = refl
 
-place-is : (place : Place) (x : Option Request) (o : ℕ) (r : Request) → askingAt place x ≡ Rate o r → place ≡ At o
+place-is : (place : Place) (x : Option Request) (o : ℕ) (r : Request) → askingAt place x ≡ For o r → place ≡ At o
 place-is Nowhere x o r e = absurd (clash (cc))
 place-is (At p) none o r e = absurd (clash (cc))
 place-is (At p) (some q) o r e = ap At (cc)
@@ -38,6 +38,6 @@ looking = record {
   views = λ reach packet. views-by packet (located reach packet);
   placed = λ reach packet seen o r e a.
       let t = through (located reach packet) (seenAt packet) seen e in
-      let asked : askingAt (t .0) (requestAt (t .0) packet) ≡ Rate o r = ap (λ (s : Seen). s .asking) (same-answer (t .2)) ∙ a in
+      let asked : askingAt (t .0) (requestAt (t .0) packet) ≡ For o r = ap (λ (s : Seen). s .asking) (same-answer (t .2)) ∙ a in
       t .1 ∙ ap answer (place-is (t .0) (requestAt (t .0) packet) o r asked);
 }

@@ -19,7 +19,7 @@ use Rattle.ipv4.specs.Views.{asRequest, requestAt}
 use Rattle.ipv4.proofs.OptionLaws.{found}
 use Rattle.ipv4.proofs.Claims.{locating, reading}
 use Rattle.inspect.specs.declared.Asking.{Asking}
-use Rattle.inspect.specs.declared.Asking.the-variants.{Nothing, Rate}
+use Rattle.inspect.specs.declared.Asking.the-variants.{Nothing, For}
 use Rattle.inspect.specs.Sights.{Room, askingAt, requestOf, sighted}
 
 -- ---- what was read at a place
@@ -37,7 +37,7 @@ module _ (place : Place) (at : ℕ) (packet : List ℕ) (here : place ≡ At at)
   pub read-other : (n : ℕ) → refuse n ≡ requestRead lentPart → Nothing ≡ askingAt place (requestAt place packet)
   read-other n e = asked-by (refuse n) e
 
-  pub read-request : (r : Request) → answer r ≡ requestRead lentPart → Rate at r ≡ askingAt place (requestAt place packet)
+  pub read-request : (r : Request) → answer r ≡ requestRead lentPart → For at r ≡ askingAt place (requestAt place packet)
   read-request r e = asked-by (answer r) e
 
 -- ---- what was located

@@ -11,17 +11,17 @@ use Rattle.ipv4.specs.Headers.{ipTtl}
 use Rattle.ipv4.specs.Packets.{located}
 use Rattle.ipv4.specs.Views.{View, requestAt}
 use Rattle.inspect.specs.declared.Asking.{Asking}
-use Rattle.inspect.specs.declared.Asking.the-variants.{Nothing, Rate}
+use Rattle.inspect.specs.declared.Asking.the-variants.{Nothing, For}
 use Rattle.inspect.specs.declared.Seen.{Seen}
 
--- an option at a place lies in so many bytes
+-- the option at a place, if there is one, lies within so many bytes
 abbrev pub Room : Place → ℕ → Type 0
 Room Nowhere bytes = Unit {0}
 Room (At place) bytes = place + optionLength ≤ bytes
 
 -- a request that stands at a place
 abbrev pub askingAt : Place → Option Request → Asking
-askingAt (At place) (some r) = Rate place r
+askingAt (At place) (some r) = For place r
 askingAt (At place) none = Nothing
 askingAt Nowhere request = Nothing
 
@@ -32,7 +32,7 @@ sighted reach packet = andThen (located reach packet) (λ place. answer (record 
 -- the view that was seen
 abbrev pub requestOf : Asking → Option Request
 requestOf Nothing = none
-requestOf (Rate place r) = some r
+requestOf (For place r) = some r
 
 abbrev pub viewOf : Seen → View
 viewOf seen = record { ttl = seen .ttl; request = requestOf (seen .asking) }

@@ -21,7 +21,7 @@ pub enum Asking {
     // It has no Quick-Start option, or one of another function than a request's.
     Nothing,
     // A request, and the place of its option in the packet.
-    Rate(usize, Request),
+    For(usize, Request),
 }
 
 pub struct Seen {
@@ -45,7 +45,7 @@ fn read_at(packet: &[u8], place: Place) -> Asking
             let end = at + OPTION_LENGTH;
             match request::read(&packet[at..end]) {
                 Reading::Refused(_) => Asking::Nothing,
-                Reading::Request(request) => Asking::Rate(at, request),
+                Reading::Request(request) => Asking::For(at, request),
             }
         }
     }

@@ -26,7 +26,7 @@ use Rattle.ipv4.specs.Views.{View, view}
 use Rattle.ipv4.specs.Claims.{RequestFits}
 use Rattle.ipv4.proofs.Claims.{viewing}
 use Rattle.receiver.specs.Reports.{ttlDiff, reported, reportReply, receiverInRange, received, responseAfter}
-use Rattle.receiver.specs.Claims.{TtlDiffs, Receiver, Given, Reports, Receiving, Responding, ReceivingOnly}
+use Rattle.receiver.specs.Claims.{TtlDiffs, Receiver, Given, Reports, Receiving, Responding, Saying, ReceivingTheorem, ReceivingOnly}
 use Rattle.receiver.proofs.ReportLaws.{no-report, report-is, received-seven}
 
 pub ttlDiffs : TtlDiffs
@@ -91,7 +91,7 @@ reports-only ceiling ttl r response t q a =
 read-fits : (reach ttl : ℕ) (packet : List ℕ) (r : Request) → Bytes packet → view reach packet ≡ answer (record { ttl = ttl; request = some r }) → (ttl < 256) × RequestFits r
 read-fits reach ttl packet r b e = let f = viewing .fits reach packet (record { ttl = ttl; request = some r }) b e in (f .ttl-small, f .request-fits)
 
-pub receiving : Receiving received
+receiving : Receiving received
 receiving = record {
   seven = λ reach ceiling room packet n. sym (received-seven reach ceiling room packet (not-given ceiling room n));
   faulty = λ reach ceiling room n packet g e. by-view reach ceiling room packet (refuse n) g (viewing .refused reach n packet e);
@@ -196,3 +196,9 @@ module _ (receiver : Receiver) (c : Receiving receiver) (reach ceiling room : �
 
 pub receivingOnly : ReceivingOnly
 receivingOnly = same-report
+
+pub receivingTheorem : ReceivingTheorem
+receivingTheorem = receiving
+
+pub saying : Saying
+saying = record { answered = λ r. refl; silent = refl; refused = λ n. refl }

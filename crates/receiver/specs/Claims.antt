@@ -15,9 +15,11 @@ use Rattle.options.specs.Responses.{responseRead}
 use Rattle.walk.specs.declared.Place.the-variants.{Nowhere, At}
 use Rattle.ipv4.specs.Packets.{located}
 use Rattle.ipv4.specs.Views.{view}
+use Rattle.receiver.specs.declared.Received.the-variants as Receivings
 use Rattle.receiver.specs.Reports.{ttlDiff, Report, unanswered, reported, received, responseAfter}
+use Rattle.receiver.specs.Replies.{reactionIn, receivedTold}
 
--- "(IP TTL - QS TTL) modulo 256", of two bytes: the byte that QS TTL added to gives IP TTL again, and there is one only
+-- "(IP TTL - QS TTL) modulo 256", of two bytes: the one byte that gives IP TTL again when QS TTL is added to it
 pub record TtlDiffs : Type 0 where
   pub byte : (ttl qs : ℕ) → ttlDiff ttl qs < 256
   pub rule : (ttl qs : ℕ) → ttl < 256 → qs < 256 → (ttlDiff ttl qs + qs) % 256 ≡ ttl
@@ -62,6 +64,16 @@ pub record Responding : Type 0 where
       → responseRead (responseAfter old (received reach ceiling (length old) packet)) ≡ answer response
   pub reserved : (reach ceiling : ℕ) (packet old : List ℕ) (response : Response) → Bytes packet → received reach ceiling (length old) packet ≡ answer (reported response)
       → (highHalf (responseAfter old (received reach ceiling (length old) packet)) ≡ 0) × (reservedIn (responseAfter old (received reach ceiling (length old) packet)) ≡ 0)
+
+-- what an answer says of a report
+pub record Saying : Type 0 where
+  pub answered : (r : Response) → reactionIn (answer (reported r)) ≡ receivedTold Receivings.Answered
+  pub silent : reactionIn (answer unanswered) ≡ receivedTold Receivings.Unanswered
+  pub refused : (n : ℕ) → reactionIn (refuse n) ≡ refuse n
+
+-- ours has them
+abbrev pub ReceivingTheorem : Type 0
+ReceivingTheorem = Receiving received
 
 -- whatever receiver has these reports what ours does, of every packet of bytes
 abbrev pub ReceivingOnly : Type 0

@@ -33,8 +33,8 @@ fn in_ranges(ceiling: u32, len: usize) -> bool
     len == OPTION_LENGTH
 }
 
-// Writes the response to a request that came with an IP TTL: the lesser of rate and ceiling, how much less
-// the IP TTL has fallen than the QS TTL, and the nonce as it came.
+// Writes the response to a request that came with an IP TTL: the lesser of rate and ceiling, the TTL Diff (IP
+// TTL less QS TTL, modulo 256), and the nonce as it came.
 fn respond(response: &mut [u8], ttl: u8, request: Request, ceiling: u32) -> Received
     ensures answer { λ r. ⌜ receivedTold r ≡ answer (reactionTo (reportOn ceiling ttl request)) ⌝ }
     ensures buffer { λ _. ⌜ now (response .exit) ≡ responseAfter (now (response .entry)) (answer (reportOn ceiling ttl request)) ⌝ }
@@ -62,7 +62,7 @@ pub fn receiver(packet: &[u8], ceiling: u32, response: &mut [u8]) -> Received
             let asking = seen.asking;
             match asking {
                 Asking::Nothing => Received::Refused(Refusal::NoRequest),
-                Asking::Rate(_, request) => respond(response, seen.ttl, request, ceiling),
+                Asking::For(_, request) => respond(response, seen.ttl, request, ceiling),
             }
         }
     }

@@ -38,7 +38,7 @@ use Rattle.router.specs.declared.Decision.{Decision}
 use Rattle.router.specs.declared.Decision.the-variants as Decisions
 use Rattle.router.specs.Decisions.{oneLess, approvedAt, decided, denial, writtenBy, over, requestAfter}
 use Rattle.router.specs.Routers.{routerInRange, unexpired, routedView, routed, silentlyRouted, wishOf, ceilingFrom, Passage, passage, routedByLedger}
-use Rattle.router.specs.Claims.{Deciding, Router, Given, Testing, PassedOn, OutsideOption, Anywhere, AsksNothing, Passing, Silence, Carries, Leaves, OneHop, RoutingOnly, SilentHop, AllGiven, AsksNoLedger, AtCeiling, LedgerRouting, WithLedger, AllowanceTheorem, touchingNothing, ShutOut}
+use Rattle.router.specs.Claims.{Deciding, Router, Given, Testing, PassedOn, OutsideOption, Anywhere, AsksNothing, Passing, Silence, Carries, Leaves, OneHop, RoutingOnly, SilentHop, AllGiven, AsksNoLedger, AtCeiling, LedgerRouting, WithLedger, Ours, AllowanceTheorem, touchingNothing, ShutOut}
 use Rattle.router.specs.Traffic.{Arrival}
 use Rattle.router.proofs.DecisionLaws.{nothing-decided}
 use Rattle.router.proofs.RouterLaws.{routed-seven, wish-low, asked-for, ledger-by, from-ledger}
@@ -232,6 +232,9 @@ withLedger = record {
   refused = λ ceiling fresh tick n p e. ap (λ (r : Reply Passage). record { said = done r; left = leaves p r }) e;
   accepted = λ ceiling fresh tick p new e. ap (λ (r : Reply Passage). record { said = done r; left = leaves p r }) e;
 }
+
+pub ours : Ours
+ours = record { tests = testing; passes = passing; hops = oneHop; silent = silence; with-ledger = ledgerRouting }
 
 pub allowanceTheorem : AllowanceTheorem
 allowanceTheorem = traffic.allowanceTheorem

@@ -31,7 +31,7 @@ use Rattle.ledger.specs.Calls.{Link, linkInRange, Granted, askReply}
 use Rattle.ledger.specs.Replies.{codeIn, linkIn}
 use Rattle.ledger.proofs.Claims.{accepting}
 use Rattle.inspect.specs.declared.Asking.{Asking}
-use Rattle.inspect.specs.declared.Asking.the-variants.{Nothing, Rate}
+use Rattle.inspect.specs.declared.Asking.the-variants.{Nothing, For}
 use Rattle.inspect.specs.declared.Seen.{Seen}
 use Rattle.inspect.specs.Sights.{askingAt, requestOf, sighted}
 use Rattle.inspect.proofs.SightLaws.{room-of, request-kept}
@@ -176,7 +176,7 @@ sent reach ceiling fresh packet asking b e =
 
 pub written-long : (ceiling fresh : ℕ) (asking : Asking) (packet : List ℕ) → length (decisionWritten ceiling fresh asking packet) ≡ length packet
 written-long ceiling fresh Nothing packet = refl
-written-long ceiling fresh (Rate place r) packet = go (writtenBy (decided ceiling fresh r))
+written-long ceiling fresh (For place r) packet = go (writtenBy (decided ceiling fresh r))
   where
     go : (x : Option Request) → length (putRequest (At place) x packet) ≡ length packet
     go none = refl

@@ -69,7 +69,7 @@ pub record Testing (router : Router) : Type 0 where
   pub accepted : (reach ceiling fresh : ℕ) (packet : List ℕ) (place : Place) → Given ceiling fresh → located reach packet ≡ answer place → 1 < getD packet 8 0
       → (new : List ℕ) × (router reach ceiling fresh packet ≡ answer new)
 
--- what passing a packet on leaves: "IP TTL falls by one and the checksum is written anew", and every other byte outside a part stays
+-- what passing a packet on leaves: "IP TTL falls by one and the checksum is written anew", and every other byte stays where `Outside` holds of its place
 pub record PassedOn (reach : ℕ) (packet new : List ℕ) (Outside : ℕ → Type 0) : Type 0 where
   pub lowered : getD new 8 0 + 1 ≡ getD packet 8 0
   pub checks : headerChecked reach new ≡ answer (headerLength packet)
@@ -79,11 +79,12 @@ pub record PassedOn (reach : ℕ) (packet new : List ℕ) (Outside : ℕ → Typ
   -- "written anew": its checksum is the one that sealing writes
   pub written : sealed new ≡ new
 
--- outside the six bytes behind the length of the option, where there is one; and every place
+-- outside the six bytes behind the length of the option, where there is one
 abbrev pub OutsideOption : Place → ℕ → Type 0
 OutsideOption Nowhere i = Unit {0}
 OutsideOption (At place) i = (i < place + 2) ⊎ (place + 8 ≤ i)
 
+-- every place
 abbrev pub Anywhere : ℕ → Type 0
 Anywhere i = Unit {0}
 
@@ -137,7 +138,7 @@ pub record OneHop (router : Router) : Type 0 where
   pub approves : (reach ceiling fresh place ttl : ℕ) (packet : List ℕ) (r : Request) → Given ceiling fresh → Carries reach packet place ttl r → 1 < ttl → 1 ≤ r .rate → 1 ≤ ceiling
       → (new : Request) × Approves r ceiling fresh new × Leaves reach packet place (ttl - 1) new (router reach ceiling fresh packet)
 
--- whatever router has these three is ours, on every packet of bytes; and whatever silent router has the one above
+-- whatever router has `Testing`, `Passing` and `OneHop` is ours, on every packet of bytes; and whatever silent router has `Silence`
 pub record RoutingOnly : Type 0 where
   pub one-router : (router : Router) → Testing router → Passing router → OneHop router → (reach ceiling fresh : ℕ) (packet : List ℕ) → Bytes packet
       → router reach ceiling fresh packet ≡ routed reach ceiling fresh packet
@@ -194,6 +195,14 @@ pub record WithLedger : Type 0 where
       → ledgerRouter ceiling fresh tick p ≡ record { said = refuse n; left = p }
   pub accepted : (ceiling fresh tick : ℕ) (p new : Passage) → routedByLedger (length (p .packet)) ceiling fresh tick p ≡ answer new
       → ledgerRouter ceiling fresh tick p ≡ record { said = answer tt; left = new }
+
+-- ours have all of these
+pub record Ours : Type 0 where
+  pub tests : Testing routed
+  pub passes : Passing routed
+  pub hops : OneHop routed
+  pub silent : Silence silentlyRouted
+  pub with-ledger : LedgerRouting routedByLedger
 
 -- ---- the allowance in the packets
 

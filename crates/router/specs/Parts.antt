@@ -11,7 +11,7 @@ use Rattle.walk.specs.declared.Place.the-variants.{At}
 use Rattle.ipv4.specs.Headers.{ipTtl}
 use Rattle.ipv4.specs.Views.{View, putRequest}
 use Rattle.inspect.specs.declared.Asking.{Asking}
-use Rattle.inspect.specs.declared.Asking.the-variants.{Nothing, Rate}
+use Rattle.inspect.specs.declared.Asking.the-variants.{Nothing, For}
 use Rattle.inspect.specs.Sights.{sighted, requestOf}
 use Rattle.router.specs.Decisions.{decided, writtenBy}
 
@@ -31,9 +31,9 @@ pub record Readable (place : ℕ) (r : Request) (bytes : ℕ) : Type 0 where
 
 abbrev pub ReadableWhere : Asking → ℕ → Type 0
 ReadableWhere Nothing bytes = Unit {0}
-ReadableWhere (Rate place r) bytes = Readable place r bytes
+ReadableWhere (For place r) bytes = Readable place r bytes
 
 -- the decision written into the option
 abbrev pub decisionWritten : ℕ → ℕ → Asking → List ℕ → List ℕ
 decisionWritten ceiling fresh Nothing packet = packet
-decisionWritten ceiling fresh (Rate place r) packet = putRequest (At place) (writtenBy (decided ceiling fresh r)) packet
+decisionWritten ceiling fresh (For place r) packet = putRequest (At place) (writtenBy (decided ceiling fresh r)) packet

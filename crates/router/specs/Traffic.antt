@@ -1,17 +1,15 @@
 -- Packets through one router with one ledger, one after the other, and the rates that the router left in them. It is defined for any such router, so that a claim about it can be
 -- made of ours and of others. Assumes nothing.
-use Prim.Native.Nat.{ℕ, _+_}
+use Prim.Native.Nat.{ℕ}
 use mathlib.Core.List.{List, [], _∷_}
 use mathlib.Core.Option.{Option, none, some}
 use lib.ListN.{length}
-use Rattle.common.specs.Choice.{pick}
 use Rattle.common.specs.Lists.{Bytes}
 use Rattle.refusals.specs.Reply.{Reply, answer, refuse}
-use Rattle.rates.specs.Steps.{rateOf}
 use Rattle.options.specs.declared.request.Request.{Request}
 use Rattle.ipv4.specs.Views.{View, view}
 use Rattle.ledger.specs.Calls.{Link}
-use Rattle.ledger.specs.History.{Outcome, inLast}
+use Rattle.ledger.specs.History.{Outcome, Approval, approvedLast}
 use Rattle.router.specs.Routers.{Passage, passage}
 
 -- the call of a router with a ledger, on a packet and its link: by ceiling, fresh nonce and tick
@@ -65,7 +63,10 @@ codeSeen (refuse n) = 0
 abbrev pub codeLeft : List ℕ → ℕ
 codeLeft packet = codeSeen (view (length packet) packet)
 
--- the sum of the rates that were left in the packets passed on at the last S ticks up to t
+-- what was left in the packets, as approvals at the ticks of their calls; and the sum of these rates at the last S ticks up to t
+abbrev pub approvalsIn : List Sent → List Approval
+approvalsIn [] = []
+approvalsIn (s ∷ rest) = record { tick = s .tick; code = codeLeft (s .packet) } ∷ approvalsIn rest
+
 abbrev pub leftLast : ℕ → ℕ → List Sent → ℕ
-leftLast slots t [] = 0
-leftLast slots t (s ∷ rest) = pick (inLast slots t (s .tick)) (rateOf (codeLeft (s .packet))) 0 + leftLast slots t rest
+leftLast slots t sent = approvedLast slots t (approvalsIn sent)

@@ -59,7 +59,7 @@ pub struct RoutedByLedger {
     pub ledger: Ledger,
 }
 
-// A packet that a router can pass on, by what it asks for.
+// What a packet that can be passed on asks for, or the refusal.
 enum Met {
     Packet(Asking),
     Refused(Refusal),
@@ -75,8 +75,9 @@ fn in_ranges(ceiling: u32, fresh: u32) -> bool
     fresh < NONCE_LIMIT
 }
 
-// The decision on a request: its rate is lowered to the ceiling. Where that leaves none the request is denied.
-// Otherwise the QS TTL falls by one and the nonce's fields between the two rates are refreshed.
+// The decision on a request. At rate 0 there is nothing to decide. Any other rate is lowered to the ceiling, and
+// where that leaves none the request is denied. Otherwise the QS TTL falls by one and the nonce's fields between the two
+// rates are refreshed; the nonce is never refused, since the numbers are in their ranges.
 fn decide(request: Request, ceiling: u32, fresh: u32) -> Decision
     requires { ⌜ (request .rate ≤ topCode) × (request .nonce < nonceLimit) × (ceiling ≤ topCode) × (fresh < nonceLimit) ⌝ }
     ensures { λ r. ⌜ r ≡ decided ceiling fresh request ⌝ }
@@ -139,7 +140,7 @@ fn answer_request(packet: &mut [u8], asking: Asking, ceiling: u32, fresh: u32)
 {
     match asking {
         Asking::Nothing => {}
-        Asking::Rate(place, request) => {
+        Asking::For(place, request) => {
             let decision = decide(request, ceiling, fresh);
             write_decision(packet, place, decision);
         }
@@ -155,14 +156,14 @@ fn send_on(packet: &mut [u8], asking: Asking, ceiling: u32, fresh: u32)
     pass_on(packet);
 }
 
-// The same, made anew field by field: what `look` has stored field by field is not waited for, as it would be by
-// a copy in one piece.
+// The same value, copied field by field: a copy in one block would have to wait until the separate stores of
+// `look` are complete.
 fn field_by_field(asking: Asking) -> Asking
     ensures { λ r. ⌜ r ≡ asking ⌝ }
 {
     match asking {
         Asking::Nothing => Asking::Nothing,
-        Asking::Rate(place, request) => Asking::Rate(
+        Asking::For(place, request) => Asking::For(
             place,
             Request {
                 rate: request.rate,
@@ -212,7 +213,7 @@ fn wish(asking: Asking, ceiling: u32) -> u32
 {
     match asking {
         Asking::Nothing => 0,
-        Asking::Rate(_, request) => lesser(request.rate, ceiling),
+        Asking::For(_, request) => lesser(request.rate, ceiling),
     }
 }
 
