@@ -1,0 +1,143 @@
+/*
+ * The router's job in plain C, for the benchmark: what a careful C programmer would write, with the
+ * same tests in the same order and the same results as qs_router.
+ *
+ * It is compiled twice, under two names, with two ways to sum the header: PLAIN_WIDE 0 adds 16-bit
+ * words as they are written on the wire, PLAIN_WIDE 1 adds 32-bit words in the machine's own byte
+ * order (RFC 1071 shows that this gives the same sum with its bytes swapped).
+ */
+#include <stddef.h>
+#include <stdint.h>
+#include <string.h>
+
+enum { DONE = 0, BAD_HEADER = 1, BAD_CHECKSUM = 2, BAD_LENGTH = 3, BAD_QUICK_START = 5, EXPIRED = 6,
+       OUT_OF_RANGE = 7 };
+
+enum { OPTION_END = 0, OPTION_NOP = 1, OPTION_QUICK_START = 25, QUICK_START_LENGTH = 8 };
+
+static uint32_t get32(const uint8_t *at)
+{
+    return (uint32_t)at[0] << 24 | (uint32_t)at[1] << 16 | (uint32_t)at[2] << 8 | at[3];
+}
+
+static void put32(uint8_t *at, uint32_t number)
+{
+    at[0] = (uint8_t)(number >> 24);
+    at[1] = (uint8_t)(number >> 16);
+    at[2] = (uint8_t)(number >> 8);
+    at[3] = (uint8_t)number;
+}
+
+/* The folded sum of the header's 16-bit words, in the byte order that put_sum writes. */
+#if PLAIN_WIDE
+static uint32_t header_sum(const uint8_t *header, size_t length)
+{
+    uint64_t sum = 0;
+    for (size_t at = 0; at < length; at += 4) {
+        uint32_t word;
+        memcpy(&word, header + at, 4);
+        sum += word;
+    }
+    sum = (sum & 0xFFFFFFFF) + (sum >> 32);
+    sum = (sum & 0xFFFF) + (sum >> 16);
+    sum = (sum & 0xFFFF) + (sum >> 16);
+    return (uint32_t)((sum & 0xFFFF) + (sum >> 16));
+}
+
+static void put_sum(uint8_t *at, uint32_t number)
+{
+    uint16_t sum = (uint16_t)number;
+    memcpy(at, &sum, 2);
+}
+#else
+static uint32_t header_sum(const uint8_t *header, size_t length)
+{
+    uint32_t sum = 0; /* at most 30 words: no carry is lost */
+    for (size_t at = 0; at < length; at += 2)
+        sum += (uint32_t)header[at] << 8 | header[at + 1];
+    sum = (sum & 0xFFFF) + (sum >> 16);
+    return (sum & 0xFFFF) + (sum >> 16);
+}
+
+static void put_sum(uint8_t *at, uint32_t number)
+{
+    at[0] = (uint8_t)(number >> 8);
+    at[1] = (uint8_t)number;
+}
+#endif
+
+/* Finds the Quick-Start option: 0 and *found (NULL if there is none), or a refusal. */
+static uint32_t find_quick_start(uint8_t *at, const uint8_t *end, uint8_t **found)
+{
+    *found = NULL;
+    while (at < end && *at != OPTION_END) {
+        if (*at == OPTION_NOP) {
+            at++;
+            continue;
+        }
+        if (end - at < 2 || at[1] < 2 || at[1] > end - at)
+            return BAD_LENGTH;
+        if (*at == OPTION_QUICK_START) {
+            if (at[1] != QUICK_START_LENGTH || *found)
+                return BAD_QUICK_START;
+            *found = at;
+        }
+        at += at[1];
+    }
+    return 0;
+}
+
+/* Lowers or denies a request; leaves everything else. */
+static void rewrite(uint8_t *option, uint32_t ceiling, uint32_t fresh_nonce)
+{
+    uint32_t rate = option[2]; /* with the function above it: 1 to 15 is a request with a rate */
+    uint32_t word, mask;
+
+    if (rate == 0 || rate > 15)
+        return;
+    word = get32(option + 4);
+    if (ceiling == 0) {
+        option[2] = 0;
+        option[3] = 0;
+        put32(option + 4, word & 3);
+        return;
+    }
+    option[3]--;
+    if (ceiling >= rate)
+        return;
+    option[2] = (uint8_t)ceiling;
+    /* fields 2 * ceiling up to 2 * rate of the nonce, which stands above two reserved bits */
+    mask = ((uint32_t)1 << 2 * rate) - ((uint32_t)1 << 2 * ceiling);
+    put32(option + 4, (word & ~(mask << 2)) | (fresh_nonce & mask) << 2);
+}
+
+uint32_t PLAIN_NAME(uint8_t *packet, size_t len, uint32_t ceiling, uint32_t fresh_nonce)
+{
+    size_t header, total;
+    uint8_t *option;
+    uint32_t refusal;
+
+    if (ceiling > 15 || fresh_nonce >> 30 != 0)
+        return OUT_OF_RANGE;
+    if (len < 20 || packet[0] >> 4 != 4)
+        return BAD_HEADER;
+    header = 4 * (size_t)(packet[0] & 15);
+    total = (size_t)packet[2] << 8 | packet[3];
+    if (header < 20 || total < header || total > len)
+        return BAD_HEADER;
+    if (header_sum(packet, header) != 0xFFFF)
+        return BAD_CHECKSUM;
+    refusal = find_quick_start(packet + 20, packet + header, &option);
+    if (refusal)
+        return refusal;
+    if (packet[8] < 2)
+        return EXPIRED;
+
+    if (option)
+        rewrite(option, ceiling, fresh_nonce);
+    packet[8]--;
+    packet[10] = 0;
+    packet[11] = 0;
+    put_sum(packet + 10, ~header_sum(packet, header));
+    return DONE;
+}
