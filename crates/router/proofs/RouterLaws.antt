@@ -233,46 +233,40 @@ module _ (reach ceiling fresh tick : ℕ) (p : Passage) where
   abbrev decidedBy : View → Reply Passage
   decidedBy v = andThen (ceilingFrom ceiling (p .link) tick (wishOf ceiling (v .request))) (passedBy v)
 
-  abbrev linkFits : Bool
-  linkFits = linkInRange (length (p .link .row)) (p .link .ledger .allowance)
+  abbrev allInRange : Bool
+  allInRange = routerInRange ceiling fresh && linkInRange (length (p .link .row)) (p .link .ledger .allowance)
 
-  pub ledger-seven : routerInRange ceiling fresh ≡ false → refuse 7 ≡ routedByLedger reach ceiling fresh tick p
+  pub ledger-seven : allInRange ≡ false → refuse 7 ≡ routedByLedger reach ceiling fresh tick p
   ledger-seven e = simp e
 
-  module _ (ok : routerInRange ceiling fresh ≡ true) where
-    pub link-seven : linkFits ≡ false → refuse 7 ≡ routedByLedger reach ceiling fresh tick p
-    link-seven e = simp (ok, e)
+  module _ (ok : allInRange ≡ true) where
+    ledger-of : andThen (met reach (p .packet)) (λ asking. decidedBy (metView (p .packet) asking)) ≡ routedByLedger reach ceiling fresh tick p
+    ledger-of = sym (chosen allInRange _ _ ok ∙ after-met reach (p .packet) decidedBy)
 
-    module _ (fits : linkFits ≡ true) where
-      ledger-of : andThen (met reach (p .packet)) (λ asking. decidedBy (metView (p .packet) asking)) ≡ routedByLedger reach ceiling fresh tick p
-      ledger-of =
-          let both : routerInRange ceiling fresh && linkFits ≡ true = simp (ok, fits) in
-          sym (chosen (routerInRange ceiling fresh && linkFits) _ _ both ∙ after-met reach (p .packet) decidedBy)
+    pub ledger-refused : (n : ℕ) → refuse n ≡ met reach (p .packet) → refuse n ≡ routedByLedger reach ceiling fresh tick p
+    ledger-refused n e = ap (λ (r : Reply Asking). andThen r (λ asking. decidedBy (metView (p .packet) asking))) e ∙ ledger-of
 
-      pub ledger-refused : (n : ℕ) → refuse n ≡ met reach (p .packet) → refuse n ≡ routedByLedger reach ceiling fresh tick p
-      ledger-refused n e = ap (λ (r : Reply Asking). andThen r (λ asking. decidedBy (metView (p .packet) asking))) e ∙ ledger-of
+    module _ (asking : Asking) (e : answer asking ≡ met reach (p .packet)) where
+      ledger-met : decidedBy (metView (p .packet) asking) ≡ routedByLedger reach ceiling fresh tick p
+      ledger-met = ap (λ (r : Reply Asking). andThen r (λ a. decidedBy (metView (p .packet) a))) e ∙ ledger-of
 
-      module _ (asking : Asking) (e : answer asking ≡ met reach (p .packet)) where
-        ledger-met : decidedBy (metView (p .packet) asking) ≡ routedByLedger reach ceiling fresh tick p
-        ledger-met = ap (λ (r : Reply Asking). andThen r (λ a. decidedBy (metView (p .packet) a))) e ∙ ledger-of
+      pub ledger-untouched : wishOf ceiling (requestOf asking) ≡ 0
+          → answer (passage (put (p .packet) (routedView ceiling fresh (metView (p .packet) asking))) (p .link)) ≡ routedByLedger reach ceiling fresh tick p
+      ledger-untouched w = ap (λ (k : ℕ). andThen (ceilingFrom ceiling (p .link) tick k) (passedBy (metView (p .packet) asking))) (sym w) ∙ ledger-met
 
-        pub ledger-untouched : wishOf ceiling (requestOf asking) ≡ 0
-            → answer (passage (put (p .packet) (routedView ceiling fresh (metView (p .packet) asking))) (p .link)) ≡ routedByLedger reach ceiling fresh tick p
-        ledger-untouched w = ap (λ (k : ℕ). andThen (ceilingFrom ceiling (p .link) tick k) (passedBy (metView (p .packet) asking))) (sym w) ∙ ledger-met
+      module _ (asks-it : wishOf ceiling (requestOf asking) ≡ 0 → ⊥) where
+        ledger-asked : (r : Reply Granted) → askReply (p .link) tick (wishOf ceiling (requestOf asking)) ≡ r
+            → andThen r (passedBy (metView (p .packet) asking)) ≡ routedByLedger reach ceiling fresh tick p
+        ledger-asked r a =
+            ap (λ (x : Reply Granted). andThen x (passedBy (metView (p .packet) asking))) (sym a ∙ sym (asked-for ceiling tick (wishOf ceiling (requestOf asking)) (p .link) asks-it))
+            ∙ ledger-met
 
-        module _ (asks-it : wishOf ceiling (requestOf asking) ≡ 0 → ⊥) where
-          ledger-asked : (r : Reply Granted) → askReply (p .link) tick (wishOf ceiling (requestOf asking)) ≡ r
-              → andThen r (passedBy (metView (p .packet) asking)) ≡ routedByLedger reach ceiling fresh tick p
-          ledger-asked r a =
-              ap (λ (x : Reply Granted). andThen x (passedBy (metView (p .packet) asking))) (sym a ∙ sym (asked-for ceiling tick (wishOf ceiling (requestOf asking)) (p .link) asks-it))
-              ∙ ledger-met
+        pub ledger-denied : (n : ℕ) → askReply (p .link) tick (wishOf ceiling (requestOf asking)) ≡ refuse n → refuse n ≡ routedByLedger reach ceiling fresh tick p
+        ledger-denied n a = ledger-asked (refuse n) a
 
-          pub ledger-denied : (n : ℕ) → askReply (p .link) tick (wishOf ceiling (requestOf asking)) ≡ refuse n → refuse n ≡ routedByLedger reach ceiling fresh tick p
-          ledger-denied n a = ledger-asked (refuse n) a
-
-          pub ledger-granted : (g : Granted) → askReply (p .link) tick (wishOf ceiling (requestOf asking)) ≡ answer g
-              → answer (passage (put (p .packet) (routedView (g .code) fresh (metView (p .packet) asking))) (g .link)) ≡ routedByLedger reach ceiling fresh tick p
-          ledger-granted g a = ledger-asked (answer g) a
+        pub ledger-granted : (g : Granted) → askReply (p .link) tick (wishOf ceiling (requestOf asking)) ≡ answer g
+            → answer (passage (put (p .packet) (routedView (g .code) fresh (metView (p .packet) asking))) (g .link)) ≡ routedByLedger reach ceiling fresh tick p
+        ledger-granted g a = ledger-asked (answer g) a
 
 -- ---- what an accepted call came through
 
@@ -302,8 +296,8 @@ pub record LedgerBy (reach ceiling fresh tick : ℕ) (p new : Passage) : Type 0 
 
 pub ledger-by : (reach ceiling fresh tick : ℕ) (p new : Passage) → routedByLedger reach ceiling fresh tick p ≡ answer new → LedgerBy reach ceiling fresh tick p new
 ledger-by reach ceiling fresh tick p new e =
-    let t = passed (routerInRange ceiling fresh && linkFits reach ceiling fresh tick p) new _ 7 (sym e) in
-    let both = both-true (routerInRange ceiling fresh) (linkFits reach ceiling fresh tick p) (t .0) in
+    let t = passed (allInRange reach ceiling fresh tick p) new _ 7 (sym e) in
+    let both = both-true (routerInRange ceiling fresh) (linkInRange (length (p .link .row)) (p .link .ledger .allowance)) (t .0) in
     let s = through (view reach (p .packet)) (λ v. unexpired v (decidedBy reach ceiling fresh tick p v)) new (sym (t .1)) in
     let l = let-through (leb (s .0 .ttl) 1) new _ 6 (sym (s .2)) in
     let g = through (ceilingFrom ceiling (p .link) tick (wishOf ceiling (s .0 .request))) (passedBy reach ceiling fresh tick p (s .0)) new (sym (l .1)) in

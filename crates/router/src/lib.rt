@@ -1,7 +1,7 @@
 // A router: it lowers the IP TTL of a packet and writes the checksum anew, and where the packet carries a
 // Quick-Start request it approves the rate, lowers it or denies it. A silent router, document 01's name for one
 // that does not know Quick-Start, does the first part only.
-ghost use mathlib.Core.Bool.{true};
+ghost use mathlib.Core.Bool.{true, _&&_};
 ghost use mathlib.Core.Option.{some};
 ghost use mathlib.Core.Path.{_≡_};
 ghost use Prim.Native.Nat.{_+_, _≤_, _<_};
@@ -11,7 +11,7 @@ ghost use Rattle.rates.specs.Steps.{topCode};
 ghost use Rattle.options.specs.Wire.{optionLength, nonceLimit};
 ghost use Rattle.walk.specs.declared.Place.the-variants.{At};
 ghost use Rattle.ipv4.specs.Views.{put, putRequest};
-ghost use Rattle.ledger.specs.Calls.{lent};
+ghost use Rattle.ledger.specs.Calls.{lent, linkInRange};
 ghost use Rattle.inspect.specs.Sights.{requestOf};
 ghost use Rattle.router.specs.Decisions.{decided, writtenBy};
 ghost use Rattle.router.specs.Routers.{routerInRange, routedView, routed, silentlyRouted, wishOf, passage, ledgerRouter};
@@ -73,6 +73,16 @@ fn in_ranges(ceiling: u32, fresh: u32) -> bool
         return false;
     }
     fresh < NONCE_LIMIT
+}
+
+// The same, and the length of a ledger's row and its allowance.
+fn all_in_ranges(ceiling: u32, fresh: u32, slots: usize, allowance: u64) -> bool
+    ensures { λ r. ⌜ r ≡ (routerInRange ceiling fresh && linkInRange slots allowance) ⌝ }
+{
+    if !in_ranges(ceiling, fresh) {
+        return false;
+    }
+    link_in_range(slots, allowance)
 }
 
 // The decision on a request. At rate 0 there is nothing to decide. Any other rate is lowered to the ceiling, and
@@ -229,13 +239,7 @@ pub fn router_with_ledger(
     ensures answer { λ r. ⌜ routedTold (r .answer) ≡ ledgerRouter ceiling fresh tick (passage (now (packet .entry)) (lent (now (row .entry)) ledger)) .said ⌝ }
     ensures passage { λ r. ⌜ passage (now (packet .exit)) (lent (now (row .exit)) (r .ledger)) ≡ ledgerRouter ceiling fresh tick (passage (now (packet .entry)) (lent (now (row .entry)) ledger)) .left ⌝ }
 {
-    if !in_ranges(ceiling, fresh) {
-        return RoutedByLedger {
-            answer: Routed::Refused(Refusal::OutOfRange),
-            ledger,
-        };
-    }
-    if !link_in_range(row.len(), ledger.allowance) {
+    if !all_in_ranges(ceiling, fresh, row.len(), ledger.allowance) {
         return RoutedByLedger {
             answer: Routed::Refused(Refusal::OutOfRange),
             ledger,
