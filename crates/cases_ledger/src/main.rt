@@ -7,6 +7,7 @@ use ledger::Ledger;
 use ledger::Move;
 use ledger::SetUp;
 use printing::number;
+use printing::numbers;
 use printing::refused;
 use printing::say;
 
@@ -28,14 +29,6 @@ fn total(row: &[u64]) -> u64 {
         i += 1;
     }
     sum
-}
-
-fn numbers(row: &[u64]) {
-    let mut i = 0;
-    while i < row.len() {
-        number(row[i]);
-        i += 1;
-    }
 }
 
 // A ledger's tick, allowance and slots.

@@ -10,6 +10,7 @@ use printing::answer;
 use printing::number;
 use printing::refused;
 use printing::say;
+use printing::start;
 use walk::Finding;
 use walk::Place;
 
@@ -27,13 +28,6 @@ const REQUEST: [u8; 8] = *b"\x19\x08\x05\x80\x00\x00\x00\x00";
 // A header whose words sum to FFFF, its checksum not counted, so that the checksum to write is 0000.
 const ZERO_CHECKSUM: [u8; 20] =
     *b"\x45\x03\x00\x14\xf7\x8d\x00\x00\x40\x06\x00\x00\xc0\xa8\x01\x01\xc0\xa8\x01\x02";
-
-// The start of a line: the packet's name, and what the line tells of it.
-fn start(name: &[u8], what: &[u8]) {
-    say(name);
-    say(b": ");
-    say(what);
-}
 
 // The first bytes of a slice, or all of it where it has no more.
 fn first(s: &[u8], n: usize) -> &[u8] {

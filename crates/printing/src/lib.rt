@@ -37,3 +37,19 @@ pub fn bytes(part: &[u8]) {
         i += 1;
     }
 }
+
+// Each number, with a space before it.
+pub fn numbers(row: &[u64]) {
+    let mut i = 0;
+    while i < row.len() {
+        number(row[i]);
+        i += 1;
+    }
+}
+
+// The start of a line: the name of what it is about, and what it tells of it.
+pub fn start(name: &[u8], what: &[u8]) {
+    say(name);
+    say(b": ");
+    say(what);
+}

@@ -184,7 +184,7 @@ pub record LedgerRouting (router : ℕ → ℕ → ℕ → ℕ → Passage → R
       → AtCeiling reach ceiling fresh (p .packet) (p .link) (router reach ceiling fresh tick p)
 
 pub record WithLedger : Type 0 where
-  -- these leave one router only
+  -- the cases of `LedgerRouting` are all there are: they leave one router only
   pub only : (router : ℕ → ℕ → ℕ → ℕ → Passage → Reply Passage) → LedgerRouting router → (reach ceiling fresh tick : ℕ) (p : Passage)
       → router reach ceiling fresh tick p ≡ routedByLedger reach ceiling fresh tick p
   -- whatever was asked, the packet is one that a router without a ledger leaves, at a ceiling that is not above its own

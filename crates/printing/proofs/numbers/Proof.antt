@@ -1,9 +1,9 @@
--- `cases_ledger::numbers` ends: what is left of the row falls with each turn. Assumes nothing.
+-- `printing::numbers` ends: what is left of the row falls with each turn. Assumes nothing.
 use Prim.Native.Nat.{_≤_, _-_}
 use lib.ListN.{length}
 use borrow.Author.Needs.{needs}
-use Rattle.cases_ledger.proofs.numbers.Statement.{statement}
-use Rattle.cases_ledger.proofs.numbers.Tie as tie
+use Rattle.printing.proofs.numbers.Statement.{statement}
+use Rattle.printing.proofs.numbers.Tie as tie
 
 abbrev Inv-loop : tie.InvT-loop
 Inv-loop row i₀ i = i ≤ length row
