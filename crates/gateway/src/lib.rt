@@ -1,5 +1,6 @@
 // The functions exported to C forwarding loops. Each answers with a number: 0 for what was done, 1 to 15 for the
 // refusals of the table, 40 for a receiver that leaves a request unanswered, 41 for a packet that marking would drop.
+// include/quickstart.h tells a caller in C what each function does; here each has the contract of what it stands for.
 ghost use mathlib.Core.Path.{_≡_};
 ghost use lib.ListN.{length};
 ghost use Rattle.refusals.specs.Reply.{leaves, done};
@@ -26,6 +27,7 @@ const UNANSWERED: u32 = 40;
 
 const DROP: u32 = 41;
 
+// The number of each answer.
 fn routed_number(answer: Routed) -> u32
     ensures { λ r. ⌜ r ≡ routerResult (routedTold answer) ⌝ }
 {
@@ -55,6 +57,7 @@ fn marked_number(answer: Marking) -> u32
     }
 }
 
+// A router without a ledger.
 #[no_mangle]
 pub extern "C" fn qs_router(packet: &mut [u8], ceiling: u32, fresh_nonce: u32) -> u32
     ensures result { λ r. ⌜ r ≡ routerResult (done (routed (length (now (packet .entry))) ceiling «fresh_nonce» (now (packet .entry)))) ⌝ }
@@ -63,6 +66,8 @@ pub extern "C" fn qs_router(packet: &mut [u8], ceiling: u32, fresh_nonce: u32) -
     routed_number(router(packet, ceiling, fresh_nonce))
 }
 
+// A router with a ledger, whose row and stored tick the caller keeps, as he does its allowance. The tick is stored
+// as the router left it, which is as it was where the ledger was not asked or the call was refused.
 #[no_mangle]
 pub extern "C" fn qs_router_ledger(
     packet: &mut [u8],
@@ -86,6 +91,7 @@ pub extern "C" fn qs_router_ledger(
     routed_number(answer)
 }
 
+// A silent router.
 #[no_mangle]
 pub extern "C" fn qs_silent_router(packet: &mut [u8]) -> u32
     ensures result { λ r. ⌜ r ≡ routerResult (done (silentlyRouted (length (now (packet .entry))) (now (packet .entry)))) ⌝ }
@@ -94,6 +100,7 @@ pub extern "C" fn qs_silent_router(packet: &mut [u8]) -> u32
     routed_number(silent_router(packet))
 }
 
+// A receiver, with room for its response.
 #[no_mangle]
 pub extern "C" fn qs_receiver(packet: &[u8], ceiling: u32, response: &mut [u8]) -> u32
     ensures result { λ r. ⌜ r ≡ receiverResult (reactionIn (received (length (now (packet .entry))) ceiling (length (now (response .entry))) (now (packet .entry)))) ⌝ }
@@ -102,6 +109,7 @@ pub extern "C" fn qs_receiver(packet: &[u8], ceiling: u32, response: &mut [u8]) 
     received_number(receiver(packet, ceiling, response))
 }
 
+// ECN marking.
 #[no_mangle]
 pub extern "C" fn qs_mark(packet: &mut [u8]) -> u32
     ensures result { λ r. ⌜ r ≡ markResult (markReply (now (packet .entry))) ⌝ }

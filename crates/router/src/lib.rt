@@ -15,7 +15,7 @@ ghost use Rattle.ledger.specs.Calls.{lent, linkInRange};
 ghost use Rattle.inspect.specs.Sights.{requestOf};
 ghost use Rattle.router.specs.Decisions.{decided, writtenBy};
 ghost use Rattle.router.specs.Routers.{routerInRange, routedView, routed, silentlyRouted, wishOf, passage, ledgerRouter};
-ghost use Rattle.router.specs.Parts.{met, metView, Readable, ReadableWhere, decisionWritten};
+ghost use Rattle.router.specs.Parts.{met, metView, ReadableWhere, decisionWritten};
 ghost use Rattle.router.specs.Replies.{routedTold, metTold};
 use inspect::Asking;
 use inspect::Sight;
@@ -157,7 +157,8 @@ fn answer_request(packet: &mut [u8], asking: Asking, ceiling: u32, fresh: u32)
     }
 }
 
-// The whole of what a router does to a packet that it can pass on, with this ceiling.
+// The whole of what a router does to a packet that it can pass on, with this ceiling. Passing on is never refused
+// here: the header and the IP TTL were tested before, and the decision changes neither.
 fn send_on(packet: &mut [u8], asking: Asking, ceiling: u32, fresh: u32)
     requires { ⌜ (met (length (now packet)) (now packet) ≡ answer asking) × (routerInRange ceiling fresh ≡ true) ⌝ }
     ensures { λ _. ⌜ now (packet .exit) ≡ put (now (packet .entry)) (routedView ceiling fresh (metView (now (packet .entry)) asking)) ⌝ }
