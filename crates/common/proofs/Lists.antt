@@ -37,6 +37,11 @@ drop-take (suc i) (suc k) (x ∷ l) = drop-take i k l ∙ ap (λ (n : ℕ). take
 pub take-rest : (i : ℕ) (l : List ℕ) → take (length l - i) (drop i l) ≡ drop i l
 take-rest i l = take-all (length l - i) (drop i l) (rw (length-drop i l) (le-refl (length l - i)))
 
+-- a part that is not empty is its first element and the rest of it
+pub part-cons : {A : Type 0} (l : List A) (i n : ℕ) (d : A) → i < n → n ≤ length l → take (n - i) (drop i l) ≡ getD l i d ∷ take (n - suc i) (drop (suc i) l)
+part-cons l i n d h k =
+    ap (take (n - i)) (drop-cons l i d (omega arith)) ∙ ap (λ (m : ℕ). take m (getD l i d ∷ drop (suc i) l)) {x = n - i} {y = suc (n - suc i)} (omega arith)
+
 -- ---- zeros
 
 -- a list of zeros holds 0 at every place and behind it, and stays the same when a 0 is stored

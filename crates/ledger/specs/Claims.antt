@@ -7,12 +7,12 @@ use mathlib.Core.Path.{_≡_}
 use lib.Dec.{ltb, eqb}
 use lib.ListN.{length, getD, set, replicate}
 use Rattle.common.specs.Choice.{pick, within}
-use Rattle.refusals.specs.Reply.{Reply, answer, refuse, andThen}
+use Rattle.refusals.specs.Reply.{Reply, answer, refuse, andThen, Outcome}
 use Rattle.rates.specs.Steps.{topCode, rateOf, Greatest}
 use Rattle.ledger.specs.declared.Ledger.{Ledger}
 use Rattle.ledger.specs.Rows.{total, cleared, movedOn, charged}
 use Rattle.ledger.specs.Calls.{Link, lent, setUpReply, moveReply, grantOf, Granted, granted, askReply}
-use Rattle.ledger.specs.History.{Outcome, Calls, callsBy, ledgerCalls, Call, Approval, Past, begun, afterAll, approvedAt, approvedLast}
+use Rattle.ledger.specs.History.{Calls, callsBy, ledgerCalls, Call, Approval, Past, begun, afterAll, approvedAt, approvedLast}
 
 -- ---- sums
 

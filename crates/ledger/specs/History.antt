@@ -5,18 +5,13 @@ use mathlib.Core.Bool.{Bool, _&&_}
 use mathlib.Core.List.{List, [], _∷_}
 use lib.Dec.{leb, ltb, eqb}
 use Rattle.common.specs.Choice.{pick}
-use Rattle.refusals.specs.Reply.{Reply, answer, refuse, leaves, done}
+use Rattle.refusals.specs.Reply.{Reply, answer, refuse, leaves, done, Outcome}
 use Rattle.rates.specs.Steps.{rateOf}
 use Rattle.ledger.specs.declared.Ledger.{Ledger}
 use Rattle.ledger.specs.Calls.{Link, Granted, setUpReply, moveReply, askReply}
 use Rattle.ledger.specs.Replies.{ledgerIn, rowIn, codeIn, linkIn}
 
--- what a call says, and what it leaves behind: in the link, or in the row that it sets up
-pub record Outcome (A B : Type 0) : Type 0 where
-  pub said : Reply A
-  pub left : B
-
--- the calls of a ledger
+-- the calls of a ledger: what each says, and what it leaves behind in the link, or in the row that it sets up
 pub record Calls : Type 0 where
   pub setUp : List ℕ → ℕ → ℕ → Outcome Ledger (List ℕ)
   pub move : Link → ℕ → Outcome (Unit {0}) Link

@@ -16,8 +16,8 @@ use Rattle.options.specs.declared.request.Request.{Request}
 use Rattle.options.specs.declared.response.Response.{Response}
 use Rattle.options.specs.Wire.{optionLength, nonceLimit, fieldsFit, optionBytes, optionWritten, kindIn, lengthIn, highHalf, rateIn, ttlIn, nonceIn, reservedIn}
 use Rattle.options.specs.Requests.{isRequest, requestRead, requestRewritten}
-use Rattle.options.specs.Responses.{isResponse, responseRead}
-use Rattle.options.specs.Claims.{RequestRoundTrip, ResponseRoundTrip, Lowering, Agreeing}
+use Rattle.options.specs.Responses.{ttlDiff, isResponse, responseRead}
+use Rattle.options.specs.Claims.{RequestRoundTrip, ResponseRoundTrip, TtlDiffs, Lowering, Agreeing}
 use Rattle.options.proofs.WireLaws.{Fit, fit-facts, word-back, word-small, bytes-back}
 use Rattle.options.proofs.NonceLaws as nonces
 
@@ -169,6 +169,14 @@ responseRoundTrip = record {
       rw (i .fields)
       (simp (own-fit option (i .len) bytes) (ap answer (own-bytes option 27 0 (i .len) (i .kind) (i .second) high reserved bytes)));
   ignored = response-back;
+}
+
+pub ttlDiffs : TtlDiffs
+unfolding ttlDiff
+ttlDiffs = record {
+  byte = λ ttl qs. omega arith;
+  rule = λ ttl qs t q. omega arith;
+  only = λ ttl qs diff t q d e. omega arith;
 }
 
 pub lowering : Lowering

@@ -1,6 +1,6 @@
 -- What is claimed of options and nonces beyond the contracts: what was written reads back, and what a lowering keeps. It speaks of the definitions that the contracts
 -- cite, and of a nonce's single fields. Assumes nothing.
-use Prim.Native.Nat.{ℕ, _+_, _*_, _≤_, _<_}
+use Prim.Native.Nat.{ℕ, _+_, _*_, _%_, _≤_, _<_}
 use mathlib.Core.Bool.{true}
 use mathlib.Core.List.{List}
 use mathlib.Core.Path.{_≡_}
@@ -12,7 +12,7 @@ use Rattle.options.specs.declared.request.Request.{Request}
 use Rattle.options.specs.declared.response.Response.{Response}
 use Rattle.options.specs.Wire.{optionLength, nonceLimit, optionBytes, highHalf, reservedIn}
 use Rattle.options.specs.Requests.{requestKind, requestRead, requestWritten, requestRewritten}
-use Rattle.options.specs.Responses.{responseKind, responseRead, responseWritten}
+use Rattle.options.specs.Responses.{ttlDiff, responseKind, responseRead, responseWritten}
 use Rattle.options.specs.Nonces.{fieldOf, fieldsUpTo, lowered, agree}
 
 -- `old` is the buffer before a write, and `new` the eight bytes that an accepted write leaves
@@ -50,6 +50,12 @@ pub record ResponseRoundTrip : Type 0 where
       → responseWritten option (r .rate) (r .«ttl_diff») (r .nonce) ≡ answer option
   pub ignored : (high rate diff nonce reserved : ℕ) → rate ≤ topCode → reserved < 4
       → responseRead (optionBytes responseKind (high * 16 + rate) diff nonce reserved) ≡ answer (record { rate = rate; «ttl_diff» = diff; nonce = nonce })
+
+-- "(IP TTL - QS TTL) modulo 256", of two bytes: the one byte that gives IP TTL again when QS TTL is added to it
+pub record TtlDiffs : Type 0 where
+  pub byte : (ttl qs : ℕ) → ttlDiff ttl qs < 256
+  pub rule : (ttl qs : ℕ) → ttl < 256 → qs < 256 → (ttlDiff ttl qs + qs) % 256 ≡ ttl
+  pub only : (ttl qs diff : ℕ) → ttl < 256 → qs < 256 → diff < 256 → (diff + qs) % 256 ≡ ttl → diff ≡ ttlDiff ttl qs
 
 -- what a lowering from `old` to `new` leaves of a nonce: up to the new code, between the two, and above the old one
 pub record Kept (old new nonce fresh after : ℕ) : Type 0 where

@@ -1,5 +1,5 @@
 -- A response read and written (document 01, "Bytes on the wire" and the table of refusals). Assumes nothing.
-use Prim.Native.Nat.{ℕ}
+use Prim.Native.Nat.{ℕ, _+_, _-_, _%_}
 use mathlib.Core.Bool.{Bool, _&&_}
 use mathlib.Core.List.{List}
 use lib.Dec.{eqb}
@@ -8,6 +8,10 @@ use Rattle.common.specs.Choice.{pick}
 use Rattle.refusals.specs.Reply.{Reply, answer, refuse}
 use Rattle.options.specs.declared.response.Response.{Response}
 use Rattle.options.specs.Wire.{optionLength, optionWritten, kindIn, lengthIn, rateIn, ttlIn, nonceIn}
+
+-- "TTL Diff = (IP TTL - QS TTL) modulo 256", of two bytes
+unfoldable pub ttlDiff : ℕ → ℕ → ℕ
+ttlDiff ttl qs = (ttl + 256 - qs) % 256
 
 -- the TCP option's kind
 abbrev pub responseKind : ℕ

@@ -2,7 +2,7 @@
 // TTL Diff, and the nonce's word.
 ghost use mathlib.Core.Path.{_≡_};
 ghost use lib.ListN.{length};
-ghost use Rattle.options.specs.Responses.{isResponse, responseRead, responseWritten};
+ghost use Rattle.options.specs.Responses.{ttlDiff, isResponse, responseRead, responseWritten};
 ghost use Rattle.options.specs.Replies.{responseTold, writtenTold};
 ghost use Rattle.options.specs.Wire.{optionLength};
 ghost use Rattle.refusals.specs.Reply.{leaves, done};
@@ -13,6 +13,7 @@ use crate::Written;
 use crate::fields_of;
 use crate::write_option;
 use refusals::Refusal;
+use std::num::wrapping_sub_u8;
 
 // The option's kind.
 const RESPONSE: u8 = 27;
@@ -26,6 +27,14 @@ pub struct Response {
 pub enum Reading {
     Response(Response),
     Refused(Refusal),
+}
+
+// The TTL Diff of an IP TTL and a QS TTL: the first less the second, modulo 256. Routers that know Quick-Start lower both
+// and leave it as it was.
+pub fn ttl_diff(ttl: u8, qs_ttl: u8) -> u8
+    ensures { λ r. ⌜ r ≡ ttlDiff ttl «qs_ttl» ⌝ }
+{
+    wrapping_sub_u8(ttl, qs_ttl)
 }
 
 // Whether eight bytes are a response: its kind and its length.

@@ -17,25 +17,17 @@ use Rattle.rates.specs.Steps.{topCode}
 use Rattle.options.specs.declared.request.Request.{Request}
 use Rattle.options.specs.declared.response.Response.{Response}
 use Rattle.options.specs.Wire.{optionLength, nonceLimit, highHalf, reservedIn}
-use Rattle.options.specs.Responses.{responseRead, responseWritten}
-use Rattle.options.proofs.Claims.{responseRoundTrip}
+use Rattle.options.specs.Responses.{ttlDiff, responseRead, responseWritten}
+use Rattle.options.proofs.Claims.{responseRoundTrip, ttlDiffs}
 use Rattle.walk.specs.declared.Place.{Place}
 use Rattle.walk.specs.declared.Place.the-variants.{Nowhere, At}
 use Rattle.ipv4.specs.Packets.{located}
 use Rattle.ipv4.specs.Views.{View, view}
 use Rattle.ipv4.specs.Claims.{RequestFits}
 use Rattle.ipv4.proofs.Claims.{viewing}
-use Rattle.receiver.specs.Reports.{ttlDiff, reported, reportReply, receiverInRange, received, responseAfter}
-use Rattle.receiver.specs.Claims.{TtlDiffs, Receiver, Given, Reports, Receiving, Responding, Saying, ReceivingTheorem, ReceivingOnly}
+use Rattle.receiver.specs.Reports.{reported, reportReply, receiverInRange, received, responseAfter}
+use Rattle.receiver.specs.Claims.{Receiver, Given, Reports, Receiving, Responding, Saying, ReceivingTheorem, ReceivingOnly}
 use Rattle.receiver.proofs.ReportLaws.{no-report, report-is, received-seven}
-
-pub ttlDiffs : TtlDiffs
-unfolding ttlDiff
-ttlDiffs = record {
-  byte = λ ttl qs. omega arith;
-  rule = λ ttl qs t q. omega arith;
-  only = λ ttl qs diff t q d e. omega arith;
-}
 
 -- ---- ranges
 

@@ -1,9 +1,8 @@
 -- Laws of a receiver's report: which it is, and what it replies by what was seen of the packet. Assumes nothing.
-use Prim.Native.Nat.{ℕ, _+_, _-_, _%_, _^_, _<_, min}
+use Prim.Native.Nat.{ℕ, min}
 use mathlib.Core.Bool.{true, false}
 use mathlib.Core.List.{List}
 use mathlib.Core.Path.{_≡_, refl, sym, ap, ap₂, _∙_}
-use native.Mathlib.Omega.{arith}
 use borrow.Author.Tests.{eq-eqb, ne-eqb}
 use Rattle.common.proofs.Choice.{chosen}
 use Rattle.refusals.specs.Reply.{Reply, answer, refuse, andThen}
@@ -13,7 +12,8 @@ use Rattle.inspect.specs.declared.Asking.{Asking}
 use Rattle.inspect.specs.declared.Seen.{Seen}
 use Rattle.inspect.specs.Sights.{requestOf, sighted, viewOf}
 use Rattle.inspect.proofs.Claims.{looking}
-use Rattle.receiver.specs.Reports.{ttlDiff, Report, unanswered, reported, reportOn, reportReply, receiverInRange, received}
+use Rattle.options.specs.Responses.{ttlDiff}
+use Rattle.receiver.specs.Reports.{Report, unanswered, reported, reportOn, reportReply, receiverInRange, received}
 
 -- ---- which report it is
 
@@ -28,12 +28,9 @@ module _ (ceiling ttl : ℕ) (r : Request) where
   no-report e = simp (eq-eqb (min (r .rate) ceiling) 0 e)
 
   -- by what the callees answered
-  pub report-by : (rate diff : ℕ) → rate ≡ min (r .rate) ceiling → (rate ≡ 0 → ⊥) → (diff + r .«qs_ttl») % 2 ^ 8 ≡ ttl → diff < 256 → r .«qs_ttl» < 256
+  pub report-by : (rate diff : ℕ) → rate ≡ min (r .rate) ceiling → (rate ≡ 0 → ⊥) → diff ≡ ttlDiff ttl (r .«qs_ttl»)
       → reported (record { rate = rate; «ttl_diff» = diff; nonce = r .nonce }) ≡ reportOn ceiling ttl r
-  unfolding ttlDiff
-  report-by rate diff e n d small byte =
-      let wrapped : diff ≡ (ttl + 256 - r .«qs_ttl») % 256 = omega arith in
-      ap₂ (λ (k t : ℕ). reported (record { rate = k; «ttl_diff» = t; nonce = r .nonce })) e wrapped ∙ report-is (λ z. n (e ∙ z))
+  report-by rate diff e n d = ap₂ (λ (k t : ℕ). reported (record { rate = k; «ttl_diff» = t; nonce = r .nonce })) e d ∙ report-is (λ z. n (e ∙ z))
 
 -- ---- what a receiver replies, by what was seen
 

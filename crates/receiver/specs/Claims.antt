@@ -16,14 +16,8 @@ use Rattle.walk.specs.declared.Place.the-variants.{Nowhere, At}
 use Rattle.ipv4.specs.Packets.{located}
 use Rattle.ipv4.specs.Views.{view}
 use Rattle.receiver.specs.declared.Received.the-variants as Receivings
-use Rattle.receiver.specs.Reports.{ttlDiff, Report, unanswered, reported, received, responseAfter}
+use Rattle.receiver.specs.Reports.{Report, unanswered, reported, received, responseAfter}
 use Rattle.receiver.specs.Replies.{reactionIn, receivedTold}
-
--- "(IP TTL - QS TTL) modulo 256", of two bytes: the one byte that gives IP TTL again when QS TTL is added to it
-pub record TtlDiffs : Type 0 where
-  pub byte : (ttl qs : ℕ) → ttlDiff ttl qs < 256
-  pub rule : (ttl qs : ℕ) → ttl < 256 → qs < 256 → (ttlDiff ttl qs + qs) % 256 ≡ ttl
-  pub only : (ttl qs diff : ℕ) → ttl < 256 → qs < 256 → diff < 256 → (diff + qs) % 256 ≡ ttl → diff ≡ ttlDiff ttl qs
 
 -- a receiver: by how far the total length may reach, its ceiling and the bytes of the response buffer, what it reports of a packet
 abbrev pub Receiver : Type 0

@@ -1,5 +1,5 @@
 -- What a receiver reports (document 01, "Router, receiver, sender"): the decision in numbers, and the response buffer afterwards. Assumes nothing.
-use Prim.Native.Nat.{ℕ, _+_, _-_, _%_, min}
+use Prim.Native.Nat.{ℕ, min}
 use mathlib.Core.Bool.{Bool, _&&_}
 use mathlib.Core.List.{List}
 use mathlib.Core.Option.{Option, none, some}
@@ -10,12 +10,8 @@ use Rattle.rates.specs.Steps.{topCode}
 use Rattle.options.specs.declared.request.Request.{Request}
 use Rattle.options.specs.declared.response.Response.{Response}
 use Rattle.options.specs.Wire.{optionLength}
-use Rattle.options.specs.Responses.{responseWritten}
+use Rattle.options.specs.Responses.{ttlDiff, responseWritten}
 use Rattle.ipv4.specs.Views.{view}
-
--- "TTL Diff = (IP TTL - QS TTL) modulo 256", of two bytes
-unfoldable pub ttlDiff : ℕ → ℕ → ℕ
-ttlDiff ttl qs = (ttl + 256 - qs) % 256
 
 -- what a receiver decides: to leave a request unanswered, or what to report
 pub data Report : Type 0 where

@@ -13,7 +13,6 @@ use options::response;
 use rates::TOP_CODE;
 use rates::lesser;
 use refusals::Refusal;
-use std::num::wrapping_sub_u8;
 
 pub enum Received {
     // The response was written.
@@ -43,7 +42,7 @@ fn respond(response: &mut [u8], ttl: u8, request: Request, ceiling: u32) -> Rece
     if rate == 0 {
         return Received::Unanswered;
     }
-    let ttl_diff = wrapping_sub_u8(ttl, request.qs_ttl);
+    let ttl_diff = response::ttl_diff(ttl, request.qs_ttl);
     response::write(response, rate, ttl_diff, request.nonce);
     Received::Answered
 }

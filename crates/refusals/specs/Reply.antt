@@ -15,6 +15,15 @@ abbrev pub done : {A : Type 0} → Reply A → Reply (Unit {0})
 done (answer a) = answer tt
 done (refuse n) = refuse n
 
+-- what a call says, and what it leaves behind in what it was given
+pub record Outcome (A B : Type 0) : Type 0 where
+  pub said : Reply A
+  pub left : B
+
+-- a call whose refusals change nothing, by its reply
+abbrev pub outcomeOf : {A : Type 0} → A → Reply A → Outcome (Unit {0}) A
+outcomeOf old reply = record { said = done reply; left = leaves old reply }
+
 -- what follows an answer; a refusal stays what is replied
 abbrev pub andThen : {A B : Type 0} → Reply A → (A → Reply B) → Reply B
 andThen (answer a) next = next a

@@ -6,14 +6,13 @@ use mathlib.Core.Option.{Option, none, some}
 use lib.Dec.{leb, ltb}
 use lib.ListN.{length}
 use Rattle.common.specs.Choice.{pick}
-use Rattle.refusals.specs.Reply.{Reply, answer, refuse, leaves, done, andThen}
+use Rattle.refusals.specs.Reply.{Reply, answer, refuse, leaves, done, andThen, Outcome}
 use Rattle.rates.specs.Steps.{topCode}
 use Rattle.options.specs.declared.request.Request.{Request}
 use Rattle.options.specs.Wire.{nonceLimit}
 use Rattle.ipv4.specs.Packets.{forwarded}
 use Rattle.ipv4.specs.Views.{View, view, put}
 use Rattle.ledger.specs.Calls.{Link, linkInRange, Granted, askReply}
-use Rattle.ledger.specs.History.{Outcome}
 use Rattle.router.specs.Decisions.{requestAfter}
 
 -- "given a ceiling 0 to 15 and a fresh nonce 0 to 2^30 - 1"

@@ -5,11 +5,11 @@ use mathlib.Core.List.{List, [], _∷_}
 use mathlib.Core.Option.{Option, none, some}
 use lib.ListN.{length}
 use Rattle.common.specs.Lists.{Bytes}
-use Rattle.refusals.specs.Reply.{Reply, answer, refuse}
+use Rattle.refusals.specs.Reply.{Reply, answer, refuse, Outcome}
 use Rattle.options.specs.declared.request.Request.{Request}
 use Rattle.ipv4.specs.Views.{View, view}
 use Rattle.ledger.specs.Calls.{Link}
-use Rattle.ledger.specs.History.{Outcome, Approval, approvedLast}
+use Rattle.ledger.specs.History.{Approval, approvedLast}
 use Rattle.router.specs.Routers.{Passage, passage}
 
 -- the call of a router with a ledger, on a packet and its link: by ceiling, fresh nonce and tick

@@ -1,6 +1,5 @@
 -- `receiver::respond` meets its contract: it is silent, or writes what is to be reported. Assumes nothing.
 use mathlib.Core.Path.{sym, ap, _∙_}
-use native.Mathlib.Omega.{arith}
 use Rattle.refusals.specs.Reply.{answer}
 use Rattle.receiver.specs.Reports.{Report, responseAfter}
 use Rattle.receiver.specs.Replies.{reactionTo}
@@ -18,8 +17,8 @@ returns c =
     let e = no-report (a .ceiling) (a .ttl) (a .request) (sym (c .before .lesser .ensures) ∙ c .if1 .taken) in
     (ap (λ (x : Report). answer (reactionTo x)) e, ap (λ (x : Report). responseAfter (a .response .now) (answer x)) e)
 
-wrapping-sub-u8-requires : tie.Need-wrapping-sub-u8-requires
-wrapping-sub-u8-requires c κs = search needs
+ttl-diff-requires : tie.Need-ttl-diff-requires
+ttl-diff-requires c κs = search needs
 
 write-requires : tie.Need-write-requires
 write-requires c κs = search needs
@@ -30,7 +29,7 @@ same-length c = search needs
 returns-2 : tie.Need-returns-2
 returns-2 c =
     let a = c .before .before .before .before .before .before .before .before .args in
-    let e = report-by (a .ceiling) (a .ttl) (a .request) _ _ (c .before .before .before .before .before .before .lesser .ensures) (c .before .before .before .before .before .if1 .left) (c .before .before .before .before .wrapping-sub-u8 .ensures) (omega arith) (omega arith) in
+    let e = report-by (a .ceiling) (a .ttl) (a .request) _ _ (c .before .before .before .before .before .before .lesser .ensures) (c .before .before .before .before .before .if1 .left) (c .before .before .before .before .ttl-diff .ensures) in
     (ap (λ (x : Report). answer (reactionTo x)) e, c .before .before .write .ensures .1 ∙ ap (λ (x : Report). responseAfter (a .response .now) (answer x)) e)
 
 pub respond-spec : {M : Type 1} → statement M
@@ -39,7 +38,7 @@ respond-spec =
     (tie.spec
     lesser-requires
     returns
-    wrapping-sub-u8-requires
+    ttl-diff-requires
     write-requires
     same-length
     returns-2)
