@@ -46,3 +46,7 @@ went old new (refuse n) d e = absurd (clash (cc))
 pub stayed : {A : Type 0} (old new : A) (r : Reply A) (n : ℕ) → refuse n ≡ done r → new ≡ leaves old r → (r ≡ refuse n) × (new ≡ old)
 stayed old new (answer a) n d e = absurd (clash (cc))
 stayed old new (refuse m) n d e = (ap refuse (cc), e)
+
+-- what a call says and leaves, by another form of its reply
+pub replied : {A : Type 0} (old : A) {x y : Reply A} → x ≡ y → (done x ≡ done y) × (leaves old x ≡ leaves old y)
+replied old e = (ap done e, ap (leaves old) e)
