@@ -61,6 +61,13 @@ pub within-high : (lo n hi : ℕ) → within lo n hi ≡ true → n ≤ hi
 unfolding within
 within-high lo n hi e = leb-true n hi (both-true (leb lo n) (leb n hi) e .1)
 
+pub not-within : (lo n hi : ℕ) → ((lo ≤ n) × (n ≤ hi) → ⊥) → within lo n hi ≡ false
+not-within lo n hi f = go (within lo n hi) refl
+  where
+    go : (t : Bool) → within lo n hi ≡ t → within lo n hi ≡ false
+    go true e = absurd (f (within-low lo n hi e, within-high lo n hi e))
+    go false e = e
+
 pub in-within : (lo n hi : ℕ) → lo ≤ n → n ≤ hi → within lo n hi ≡ true
 unfolding within
 in-within lo n hi l h = simp (le-leb lo n l, le-leb n hi h)

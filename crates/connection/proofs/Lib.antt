@@ -1,2 +1,4 @@
 pub mod SampleLaws
 pub mod RecordLaws
+pub mod Claims
+pub mod PartLaws

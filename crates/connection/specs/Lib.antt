@@ -1,2 +1,3 @@
 pub mod Records
 pub mod Replies
+pub mod Claims

@@ -9,7 +9,7 @@ use lib.Dec.{leb, ltb, eqb}
 use lib.ListN.{length, getD}
 use Rattle.common.specs.Lists.{Bytes}
 use Rattle.common.proofs.Choice.{both-true}
-use Rattle.common.proofs.Lists.{written-out}
+use Rattle.common.proofs.Lists.{written-out, bytes-each}
 use Rattle.rates.specs.Steps.{topCode}
 use Rattle.options.specs.Wire.{optionLength, nonceLimit, fieldsFit, optionBytes, kindIn, lengthIn, ttlIn, wordOf, nonceIn, reservedIn}
 
@@ -39,6 +39,12 @@ word-bytes a b c d hb hc hd = (omega arith, omega arith, omega arith, omega arit
 pub word-small : (option : List ℕ) → Bytes option → wordOf option < 2 ^ 32
 unfolding wordOf
 word-small option bytes = omega (arith, bytes 4, bytes 5, bytes 6, bytes 7)
+
+-- what is written is bytes
+pub bytes-of : (kind rate ttl nonce reserved : ℕ) → kind < 256 → rate < 256 → ttl < 256 → nonce < nonceLimit → reserved < 4 → Bytes (optionBytes kind rate ttl nonce reserved)
+unfolding optionBytes
+bytes-of kind rate ttl nonce reserved k r t n d =
+    bytes-each (optionBytes kind rate ttl nonce reserved) (k, (omega arith, (r, (t, (omega arith, (omega arith, (omega arith, (omega arith, tt))))))))
 
 -- eight bytes whose second is 8 are what is written of their own fields
 pub bytes-back : (option : List ℕ) → length option ≡ optionLength → lengthIn option ≡ 8 → Bytes option

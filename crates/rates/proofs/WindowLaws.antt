@@ -70,6 +70,17 @@ bytes-fit code rtt mss headers c t =
     le-trans (mul-le-mul-left {m = mss} {n = 1000000 * (mss + headers)} (windowSegments code rtt mss headers) (omega arith)) (div-mul-le-self (5000 * 2 ^ code * rtt) (1000000 * (mss + headers))) in
     omega arith
 
+-- the most bytes of any window: those of code 15 and the longest round trip, were there no headers
+pub window-most : (code rtt mss headers : ℕ) → code ≤ topCode → rtt ≤ longestRtt → windowBytes code rtt mss headers ≤ 9830400000
+unfolding windowBytes windowSegments
+window-most code rtt mss headers c t =
+    let q = windowSegments code rtt mss headers in
+    let p : 5000 * 2 ^ code * rtt ≤ 163840000 * 60000000 = mul-le-mul (mul-le-mul-left 5000 (power-small code c)) t in
+    let d : q * (1000000 * (mss + headers)) ≤ 5000 * 2 ^ code * rtt = div-mul-le-self (5000 * 2 ^ code * rtt) (1000000 * (mss + headers)) in
+    let e : q * (1000000 * (mss + headers)) ≡ 1000000 * (q * (mss + headers)) = mul-left-comm q 1000000 (mss + headers) in
+    let m : q * mss ≤ q * (mss + headers) = mul-le-mul-left {m = mss} {n = mss + headers} q (omega arith) in
+    omega arith
+
 -- the reply in bytes, from the reply in segments
 pub bytes-answered : (code rtt mss headers segments : ℕ) → answer segments ≡ segmentsReply code rtt mss headers
     → (segments * mss < 2 ^ 64) × (answer (segments * mss) ≡ bytesReply code rtt mss headers)

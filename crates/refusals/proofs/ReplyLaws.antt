@@ -2,10 +2,10 @@
 use Prim.Native.Nat.{ℕ}
 use mathlib.Core.Bool.{Bool, true, false}
 use mathlib.Core.Logic.{_⊎_, inl, inr}
-use mathlib.Core.Path.{_≡_, refl, sym, ap}
+use mathlib.Core.Path.{_≡_, refl, sym, ap, ap₂}
 use Rattle.common.proofs.Choice.{clash}
 use Rattle.common.specs.Choice.{pick}
-use Rattle.refusals.specs.Reply.{Reply, answer, refuse, leaves, done, andThen}
+use Rattle.refusals.specs.Reply.{Reply, answer, refuse, leaves, done, andThen, Outcome}
 
 -- an answer came through the test
 pub passed : {A : Type 0} (t : Bool) (a : A) (x : Reply A) (n : ℕ) → answer a ≡ pick t x (refuse n) → (t ≡ true) × (answer a ≡ x)
@@ -46,6 +46,19 @@ went old new (refuse n) d e = absurd (clash (cc))
 pub stayed : {A : Type 0} (old new : A) (r : Reply A) (n : ℕ) → refuse n ≡ done r → new ≡ leaves old r → (r ≡ refuse n) × (new ≡ old)
 stayed old new (answer a) n d e = absurd (clash (cc))
 stayed old new (refuse m) n d e = (ap refuse (cc), e)
+
+-- a refused call leaves what it was given
+pub left-as-it-was : {A : Type 0} (old : A) (r : Reply A) (n : ℕ) → done r ≡ refuse n → leaves old r ≡ old
+left-as-it-was old (answer a) n e = absurd (clash (cc))
+left-as-it-was old (refuse m) n e = refl
+
+-- what a call leaves is the old value, or what it answered
+pub left-by : {A : Type 0} (P : A → Type 0) (old : A) (r : Reply A) → P old → ((a : A) → r ≡ answer a → P a) → P (leaves old r)
+left-by P old (answer a) p f = f a refl
+left-by P old (refuse n) p f = p
+
+pub same-outcome : {A B : Type 0} (o p : Outcome A B) → o .said ≡ p .said → o .left ≡ p .left → o ≡ p
+same-outcome {A} {B} o p e f = ap₂ (λ (s : Reply A) (l : B). record { said = s; left = l }) e f
 
 -- what a call says and leaves, by another form of its reply
 pub replied : {A : Type 0} (old : A) {x y : Reply A} → x ≡ y → (done x ≡ done y) × (leaves old x ≡ leaves old y)

@@ -42,25 +42,26 @@ module _ (q : OpenRequest) (r : Response) where
     unfolding judged
     diff-wrong n = simp (e, ne-eqb (r .«ttl_diff») (q .«ttl_diff») n)
 
-    module _ (d : r .«ttl_diff» ≡ q .«ttl_diff») (top : q .code ≤ topCode) (a : q .nonce < nonceLimit) (b : r .nonce < nonceLimit) where
-      judged-by : (t : Bool) → agree (r .rate) (q .nonce) (r .nonce) ≡ t → pick t (answer (r .rate)) (refuse 15) ≡ judged q r
+    module _ (d : r .«ttl_diff» ≡ q .«ttl_diff») where
+      pub judged-by : (t : Bool) → agree (r .rate) (q .nonce) (r .nonce) ≡ t → pick t (answer (r .rate)) (refuse 15) ≡ judged q r
       unfolding judged
       judged-by t n = simp (e, eq-eqb (r .«ttl_diff») (q .«ttl_diff») d, n)
 
-      agreeing : agreeReply (r .rate) (q .nonce) (r .nonce) ≡ answer (agree (r .rate) (q .nonce) (r .nonce))
-      agreeing =
-          let high : r .rate ≤ q .code = within-high 1 (r .rate) (q .code) e in
-          let most : r .rate ≤ topCode = omega arith in
-          simp (le-leb (r .rate) topCode most, lt-ltb (q .nonce) nonceLimit a, lt-ltb (r .nonce) nonceLimit b)
+      module _ (top : q .code ≤ topCode) (a : q .nonce < nonceLimit) (b : r .nonce < nonceLimit) where
+        agreeing : agreeReply (r .rate) (q .nonce) (r .nonce) ≡ answer (agree (r .rate) (q .nonce) (r .nonce))
+        agreeing =
+            let high : r .rate ≤ q .code = within-high 1 (r .rate) (q .code) e in
+            let most : r .rate ≤ topCode = omega arith in
+            simp (le-leb (r .rate) topCode most, lt-ltb (q .nonce) nonceLimit a, lt-ltb (r .nonce) nonceLimit b)
 
-      pub nonce-same : answer true ≡ agreeReply (r .rate) (q .nonce) (r .nonce) → answer (r .rate) ≡ judged q r
-      nonce-same f = judged-by true (sym (same-answer (f ∙ agreeing)))
+        pub nonce-same : answer true ≡ agreeReply (r .rate) (q .nonce) (r .nonce) → answer (r .rate) ≡ judged q r
+        nonce-same f = judged-by true (sym (same-answer (f ∙ agreeing)))
 
-      pub nonce-other : answer false ≡ agreeReply (r .rate) (q .nonce) (r .nonce) → refuse 15 ≡ judged q r
-      nonce-other f = judged-by false (sym (same-answer (f ∙ agreeing)))
+        pub nonce-other : answer false ≡ agreeReply (r .rate) (q .nonce) (r .nonce) → refuse 15 ≡ judged q r
+        nonce-other f = judged-by false (sym (same-answer (f ∙ agreeing)))
 
-      pub nonce-refused : (n : ℕ) → refuse n ≡ agreeReply (r .rate) (q .nonce) (r .nonce) → ⊥
-      nonce-refused n f = let g = f ∙ agreeing in clash (cc)
+        pub nonce-refused : (n : ℕ) → refuse n ≡ agreeReply (r .rate) (q .nonce) (r .nonce) → ⊥
+        nonce-refused n f = let g = f ∙ agreeing in clash (cc)
 
 -- ---- an accepted rate
 

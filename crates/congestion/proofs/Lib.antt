@@ -1,0 +1,6 @@
+pub mod TestLaws
+pub mod EchoLaws
+pub mod SampleLaws
+pub mod PipeLaws
+pub mod PhaseLaws
+pub mod CallLaws

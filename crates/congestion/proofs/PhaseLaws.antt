@@ -1,0 +1,17 @@
+-- Laws of the non-validated period: it starts again once it was over, and goes on until then. Assumes nothing.
+use Prim.Native.Nat.{ℕ}
+use mathlib.Core.Bool.{true, false}
+use mathlib.Core.Path.{_≡_}
+use Rattle.connection.specs.declared.Moment.the-variants.{At}
+use Rattle.connection.specs.declared.Connection.{Connection}
+use Rattle.connection.specs.Records.{withPeriod}
+use Rattle.congestion.specs.Phases.{isOver, startedAt, adjusted, nonValidated}
+
+module _ (initial time : ℕ) (c : Connection) where
+  pub period-over : isOver time (c .period) ≡ true → withPeriod (adjusted initial c) (At time) ≡ nonValidated initial time c
+  unfolding nonValidated
+  period-over e = simp e
+
+  pub period-on : isOver time (c .period) ≡ false → withPeriod c (startedAt time (c .period)) ≡ nonValidated initial time c
+  unfolding nonValidated
+  period-on e = simp e

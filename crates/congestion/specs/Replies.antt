@@ -1,0 +1,35 @@
+-- What each answer of this crate means: the papers' values, or the number of the refusal. Assumes nothing.
+use Prim.Native.Nat.{ℕ}
+use mathlib.Core.Bool.{Bool, true, false}
+use mathlib.Core.Option.{Option, none, some}
+use Rattle.refusals.specs.Numbers.{numberOf}
+use Rattle.refusals.specs.Reply.{Reply, answer, refuse}
+use Rattle.congestion.specs.declared.EchoAnswer.{EchoAnswer}
+use Rattle.congestion.specs.declared.EchoAnswer.the-variants as Echoes
+use Rattle.congestion.specs.declared.Added.{Added}
+use Rattle.congestion.specs.declared.Added.the-variants as Addings
+use Rattle.congestion.specs.declared.PhaseAnswer.{PhaseAnswer}
+use Rattle.congestion.specs.declared.PhaseAnswer.the-variants as Phases
+use Rattle.congestion.specs.declared.PipeAck.{PipeAck}
+use Rattle.congestion.specs.declared.PipeAck.the-variants as PipeAcks
+
+-- whether an echo was reacted to
+abbrev pub echoTold : EchoAnswer → Reply Bool
+echoTold Echoes.Reacted = answer true
+echoTold Echoes.Ignored = answer false
+echoTold (Echoes.Refused why) = refuse (numberOf why)
+
+abbrev pub addedTold : Added → Reply (Unit {0})
+addedTold Addings.Done = answer tt
+addedTold (Addings.Refused why) = refuse (numberOf why)
+
+-- whether the phase is validated
+abbrev pub phaseTold : PhaseAnswer → Reply Bool
+phaseTold Phases.Validated = answer true
+phaseTold Phases.NonValidated = answer false
+phaseTold (Phases.Refused why) = refuse (numberOf why)
+
+-- pipeACK, or none where it is undefined
+abbrev pub pipeAckTold : PipeAck → Option ℕ
+pipeAckTold PipeAcks.Undefined = none
+pipeAckTold (PipeAcks.Bytes bytes) = some bytes

@@ -1,0 +1,382 @@
+// What a connection does about congestion, besides Quick-Start: the reaction to an ECN echo (RFC 2481), and the samples
+// and the phase of pipeACK (RFC 7661). Each call takes the connection's record by value and hands it back beside its
+// answer; a refused call hands it back unchanged. All are allowed in every state of a request and leave it alone.
+ghost use mathlib.Core.Path.{_≡_};
+ghost use Prim.Native.Nat.{_≤_};
+ghost use lib.ListN.{take};
+ghost use Rattle.rates.specs.Window.{longestRtt};
+ghost use Rattle.connection.specs.Records.{mostBytes, mostSamples};
+ghost use Rattle.congestion.specs.Echoes.{isAhead, halved, reacted};
+ghost use Rattle.congestion.specs.Phases.{sampleOf, isEarly, isRecent, orGreater, pipeAck, validated, isValidated, isOver, startedAt, adjusted, nonValidated, sampled, phaseInRange};
+ghost use Rattle.congestion.specs.Calls.{congestionCalls};
+ghost use Rattle.congestion.specs.Replies.{echoTold, addedTold, phaseTold, pipeAckTold};
+use connection::Connection;
+use connection::MOST_BYTES;
+use connection::MOST_SAMPLES;
+use connection::Mark;
+use connection::Moment;
+use connection::Sample;
+use connection::greater;
+use connection::is_before;
+use connection::is_in_range;
+use connection::lesser;
+use connection::with_mark;
+use connection::with_period;
+use rates::LARGEST_SEGMENT;
+use rates::LONGEST_RTT;
+use refusals::Refusal;
+use refusals::in_range;
+use std::num::wrapping_sub_u32;
+
+// Half of the sequence numbers: one that is less than this ahead of another comes after it.
+const HALF_SEQUENCE: u32 = 2_147_483_648;
+
+// A sample counts for three round trips, and for a second at least, in microseconds.
+const ROUND_TRIPS: u64 = 3;
+
+const LEAST_AGE: u64 = 1_000_000;
+
+// The longest time without an adjustment in the non-validated phase, in microseconds.
+const LONGEST_PERIOD: u64 = 300_000_000;
+
+// The largest initial window, in bytes.
+pub const LARGEST_INITIAL: u64 = 65_535;
+
+pub enum EchoAnswer {
+    // Window and ssthresh were set anew, and the mark.
+    Reacted,
+    // The echo belongs to a window that was reacted to before.
+    Ignored,
+    Refused(Refusal),
+}
+
+// What an ECN echo gets, and the record afterwards.
+pub struct Echoed {
+    pub answer: EchoAnswer,
+    pub connection: Connection,
+}
+
+pub enum Added {
+    Done,
+    Refused(Refusal),
+}
+
+// What adding a sample answers, and the record afterwards.
+pub struct Sampled {
+    pub answer: Added,
+    pub connection: Connection,
+}
+
+pub enum PhaseAnswer {
+    Validated,
+    NonValidated,
+    Refused(Refusal),
+}
+
+// The phase, and the record afterwards.
+pub struct Phased {
+    pub answer: PhaseAnswer,
+    pub connection: Connection,
+}
+
+// ---- ECN
+
+// Half of the window or the least given, whichever is more, but not more than the window.
+fn halved_down_to(window: u64, least: u64) -> u64
+    ensures { λ r. ⌜ r ≡ halved window least ⌝ }
+{
+    lesser(window, greater(window / 2, least))
+}
+
+// Whether an acknowledgement is ahead of the mark, by 1 to 2^31 - 1 modulo 2^32; it is where there is no mark.
+fn is_ahead(acknowledgement: u32, mark: Mark) -> bool
+    ensures { λ r. ⌜ r ≡ isAhead acknowledgement mark ⌝ }
+{
+    match mark {
+        Mark::Absent => true,
+        Mark::At(number) => {
+            let ahead = wrapping_sub_u32(acknowledgement, number);
+            if ahead == 0 {
+                return false;
+            }
+            ahead < HALF_SEQUENCE
+        }
+    }
+}
+
+// The record after a reaction: the window halved, but not below a segment, ssthresh the same, and the mark set.
+fn react(connection: Connection, highest: u32, mss: u64) -> Connection
+    ensures { λ r. ⌜ r ≡ reacted connection highest mss ⌝ }
+{
+    let window = halved_down_to(connection.window, mss);
+    let mut marked = with_mark(connection, Mark::At(highest));
+    marked.window = window;
+    marked.ssthresh = window;
+    marked
+}
+
+// An ECN echo that came with an acknowledgement, at the highest number sent so far: the first one of a window of data
+// lowers the window, the others do nothing.
+pub fn echo(connection: Connection, acknowledgement: u32, highest: u32, mss: u64) -> Echoed
+    ensures answer { λ r. ⌜ echoTold (r .answer) ≡ congestionCalls .echo connection acknowledgement highest mss .said ⌝ }
+    ensures record { λ r. ⌜ r .connection ≡ congestionCalls .echo connection acknowledgement highest mss .left ⌝ }
+{
+    if !is_in_range(connection) {
+        return Echoed {
+            answer: EchoAnswer::Refused(Refusal::OutOfRange),
+            connection,
+        };
+    }
+    if !in_range(1, mss, LARGEST_SEGMENT) {
+        return Echoed {
+            answer: EchoAnswer::Refused(Refusal::OutOfRange),
+            connection,
+        };
+    }
+    let mark = connection.mark;
+    if !is_ahead(acknowledgement, mark) {
+        return Echoed {
+            answer: EchoAnswer::Ignored,
+            connection,
+        };
+    }
+    Echoed {
+        answer: EchoAnswer::Reacted,
+        connection: react(connection, highest, mss),
+    }
+}
+
+// ---- samples
+
+// Whether a time lies before the newest sample's, or before the start of the period that runs.
+fn is_early(connection: Connection, time: u64) -> bool
+    ensures { λ r. ⌜ r ≡ isEarly time connection ⌝ }
+{
+    let period = connection.period;
+    if is_before(time, period) {
+        return true;
+    }
+    if connection.count == 0 {
+        return false;
+    }
+    let samples = connection.samples;
+    let newest = samples[0];
+    time < newest.time
+}
+
+// The record with a sample in front of the others; the fifth of those, the earliest added, gives way.
+fn add(connection: Connection, sample: Sample) -> Connection
+    requires { ⌜ connection .count ≤ mostSamples ⌝ }
+    ensures { λ r. ⌜ r ≡ sampled connection sample ⌝ }
+{
+    let held = connection.samples;
+    let a = held[0];
+    let b = held[1];
+    let c = held[2];
+    let d = held[3];
+    let mut next = connection;
+    next.samples = [sample, a, b, c, d];
+    if connection.count < MOST_SAMPLES {
+        next.count = connection.count + 1;
+    }
+    next
+}
+
+// Adds a sample: the bytes that were acknowledged in a round trip, and the time.
+pub fn sample(connection: Connection, time: u64, bytes: u64) -> Sampled
+    ensures answer { λ r. ⌜ addedTold (r .answer) ≡ congestionCalls .sample connection (sampleOf time bytes) .said ⌝ }
+    ensures record { λ r. ⌜ r .connection ≡ congestionCalls .sample connection (sampleOf time bytes) .left ⌝ }
+{
+    if !is_in_range(connection) {
+        return Sampled {
+            answer: Added::Refused(Refusal::OutOfRange),
+            connection,
+        };
+    }
+    if bytes > MOST_BYTES {
+        return Sampled {
+            answer: Added::Refused(Refusal::OutOfRange),
+            connection,
+        };
+    }
+    if is_early(connection, time) {
+        return Sampled {
+            answer: Added::Refused(Refusal::TimeBackwards),
+            connection,
+        };
+    }
+    Sampled {
+        answer: Added::Done,
+        connection: add(connection, Sample { time, bytes }),
+    }
+}
+
+// ---- the phase
+
+// The greatest sample that counts, or none that does.
+enum PipeAck {
+    Undefined,
+    Bytes(u64),
+}
+
+// Whether a sample is not older than a limit. One from after the present time is not.
+fn is_recent(sample: Sample, limit: u64, time: u64) -> bool
+    ensures { λ r. ⌜ r ≡ isRecent limit time sample ⌝ }
+{
+    if time <= sample.time {
+        return true;
+    }
+    time - sample.time <= limit
+}
+
+// The greater of a sample and what others gave, if it counts.
+fn or_greater(sample: Sample, limit: u64, time: u64, others: PipeAck) -> PipeAck
+    ensures { λ r. ⌜ pipeAckTold r ≡ orGreater limit time sample (pipeAckTold others) ⌝ }
+{
+    if !is_recent(sample, limit, time) {
+        return others;
+    }
+    match others {
+        PipeAck::Undefined => PipeAck::Bytes(sample.bytes),
+        PipeAck::Bytes(most) => PipeAck::Bytes(greater(sample.bytes, most)),
+    }
+}
+
+// The greatest of the first `count` samples that is not older than a limit.
+fn pipe_ack(samples: [Sample; 5], count: usize, limit: u64, time: u64) -> PipeAck
+    requires { ⌜ count ≤ mostSamples ⌝ }
+    ensures { λ r. ⌜ pipeAckTold r ≡ pipeAck limit time (take count samples) ⌝ }
+{
+    let mut most = PipeAck::Undefined;
+    let mut i = count;
+    while i > 0 {
+        i -= 1;
+        most = or_greater(samples[i], limit, time, most);
+    }
+    most
+}
+
+// Whether a window is validated: by a pipeACK of at least half of it, or by none.
+fn is_validated(window: u64, pipe_ack: PipeAck) -> bool
+    requires { ⌜ window ≤ mostBytes ⌝ }
+    ensures { λ r. ⌜ r ≡ validated window (pipeAckTold «pipe_ack») ⌝ }
+{
+    match pipe_ack {
+        PipeAck::Undefined => true,
+        PipeAck::Bytes(bytes) => {
+            if bytes >= window {
+                return true;
+            }
+            window <= 2 * bytes
+        }
+    }
+}
+
+// Whether more than the longest time has passed since the period's start.
+fn is_over(period: Moment, time: u64) -> bool
+    ensures { λ r. ⌜ r ≡ isOver time period ⌝ }
+{
+    match period {
+        Moment::Absent => false,
+        Moment::At(start) => {
+            if time <= start {
+                return false;
+            }
+            time - start > LONGEST_PERIOD
+        }
+    }
+}
+
+// The start of the period that runs, or the present time where none does.
+fn started(period: Moment, time: u64) -> Moment
+    ensures { λ r. ⌜ r ≡ startedAt time period ⌝ }
+{
+    match period {
+        Moment::Absent => Moment::At(time),
+        Moment::At(start) => Moment::At(start),
+    }
+}
+
+// The record after the longest time: ssthresh raised to three quarters of the window, and then the window halved, but not
+// below the initial window.
+fn adjust(connection: Connection, initial_window: u64) -> Connection
+    requires { ⌜ connection .window ≤ mostBytes ⌝ }
+    ensures { λ r. ⌜ r ≡ adjusted «initial_window» connection ⌝ }
+{
+    let mut next = connection;
+    next.ssthresh = greater(connection.ssthresh, 3 * connection.window / 4);
+    next.window = halved_down_to(connection.window, initial_window);
+    next
+}
+
+// The record after a call that found it non-validated.
+fn run_on(connection: Connection, initial_window: u64, time: u64) -> Connection
+    requires { ⌜ connection .window ≤ mostBytes ⌝ }
+    ensures { λ r. ⌜ r ≡ nonValidated «initial_window» time connection ⌝ }
+{
+    let period = connection.period;
+    if is_over(period, time) {
+        return with_period(adjust(connection, initial_window), Moment::At(time));
+    }
+    with_period(connection, started(period, time))
+}
+
+// Whether the round trip and the initial window are in their ranges.
+fn phase_in_range(rtt: u64, initial_window: u64) -> bool
+    ensures { λ r. ⌜ r ≡ phaseInRange rtt «initial_window» ⌝ }
+{
+    if !in_range(1, rtt, LONGEST_RTT) {
+        return false;
+    }
+    in_range(1, initial_window, LARGEST_INITIAL)
+}
+
+// Whether a connection's window is validated by its samples at a time.
+fn judge(connection: Connection, rtt: u64, time: u64) -> bool
+    requires { ⌜ (connection .window ≤ mostBytes) × (connection .count ≤ mostSamples) × (rtt ≤ longestRtt) ⌝ }
+    ensures { λ r. ⌜ r ≡ isValidated rtt time connection ⌝ }
+{
+    let samples = connection.samples;
+    let limit = greater(ROUND_TRIPS * rtt, LEAST_AGE);
+    is_validated(
+        connection.window,
+        pipe_ack(samples, connection.count, limit, time),
+    )
+}
+
+// The phase of the connection at a time, judged by the window as it is. The first call that finds it non-validated starts
+// a period, and a call that finds it validated ends it; a call more than 300 seconds after the start lowers the window, raises
+// ssthresh and starts the period again.
+pub fn phase(connection: Connection, rtt: u64, initial_window: u64, time: u64) -> Phased
+    ensures answer { λ r. ⌜ phaseTold (r .answer) ≡ congestionCalls .phase connection rtt «initial_window» time .said ⌝ }
+    ensures record { λ r. ⌜ r .connection ≡ congestionCalls .phase connection rtt «initial_window» time .left ⌝ }
+{
+    if !is_in_range(connection) {
+        return Phased {
+            answer: PhaseAnswer::Refused(Refusal::OutOfRange),
+            connection,
+        };
+    }
+    if !phase_in_range(rtt, initial_window) {
+        return Phased {
+            answer: PhaseAnswer::Refused(Refusal::OutOfRange),
+            connection,
+        };
+    }
+    if is_early(connection, time) {
+        return Phased {
+            answer: PhaseAnswer::Refused(Refusal::TimeBackwards),
+            connection,
+        };
+    }
+    if judge(connection, rtt, time) {
+        return Phased {
+            answer: PhaseAnswer::Validated,
+            connection: with_period(connection, Moment::Absent),
+        };
+    }
+    Phased {
+        answer: PhaseAnswer::NonValidated,
+        connection: run_on(connection, initial_window, time),
+    }
+}
