@@ -1,14 +1,14 @@
 -- Laws of lists that know nothing of what the elements mean. Assumes nothing.
 use Prim.Native.Nat.{ℕ, zero, suc, _+_, _-_, _≤_, _<_}
 use mathlib.Core.Bool.{Bool, true, _&&_}
-use mathlib.Core.List.{List, [], _∷_, _++_, append-assoc}
+use mathlib.Core.List.{List, [], _∷_, _++_, append-assoc, map}
 use mathlib.Core.Logic.{_⊎_, inl, inr}
 use mathlib.Core.Path.{_≡_, refl, ap, ap₂, sym, _∙_}
 use native.Mathlib.Nat.{le-refl, sub-zero, zero-sub, suc-sub-suc}
 use native.Mathlib.Omega.{arith}
 use lib.Dec.{lit<, ltb}
 use borrow.Author.Tests.{ltb-true}
-use lib.ListN.{length, getD, set, take, drop, replicate, length-append, length-drop, take-append-drop, drop-of-length-le}
+use lib.ListN.{length-map, length, getD, set, take, drop, replicate, length-append, length-drop, take-append-drop, drop-of-length-le}
 use lib.Seq.{set-comm, take-nil, take-all, take-add, take-set-lt, drop-cons, drop-at, drop-set-add, getD-drop, getD-set-other, set-getD, length-take-le, take-append-seam, drop-append-add, sets, sets-eq}
 use Rattle.common.specs.Lists.{Bytes}
 use Rattle.common.proofs.Choice.{both-true}
@@ -41,6 +41,10 @@ take-rest i l = take-all (length l - i) (drop i l) (rw (length-drop i l) (le-ref
 pub part-cons : {A : Type 0} (l : List A) (i n : ℕ) (d : A) → i < n → n ≤ length l → take (n - i) (drop i l) ≡ getD l i d ∷ take (n - suc i) (drop (suc i) l)
 part-cons l i n d h k =
     ap (take (n - i)) (drop-cons l i d (omega arith)) ∙ ap (λ (m : ℕ). take m (getD l i d ∷ drop (suc i) l)) {x = n - i} {y = suc (n - suc i)} (omega arith)
+
+-- a list is as long as what its elements are made into; of a field that is an array of structs the checker tells the latter's length
+pub length-mapped : (X Y : Type 0) (f : X → Y) (l : List X) (n : ℕ) → length (map f l) ≡ n → length l ≡ n
+length-mapped X Y f l n e = sym (length-map l f) ∙ e
 
 -- ---- zeros
 

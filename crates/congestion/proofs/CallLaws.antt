@@ -1,37 +1,28 @@
 -- Laws of the calls: what each replies, by the tests that lead there. Assumes nothing.
 use Prim.Native.Nat.{ℕ, _≤_, _<_}
-use mathlib.Core.Bool.{Bool, true, false, _&&_}
+use mathlib.Core.Bool.{Bool, true, false}
 use mathlib.Core.Path.{_≡_}
-use lib.Dec.{leb}
-use borrow.Author.Tests.{leb-true, le-leb, lt-leb}
+use borrow.Author.Tests.{le-leb, lt-leb}
 use Rattle.common.specs.Choice.{within}
 use Rattle.common.proofs.Choice.{both-true, within-high}
 use Rattle.refusals.specs.Reply.{answer, refuse}
 use Rattle.rates.specs.Window.{longestRtt, largestSegment}
 use Rattle.connection.specs.declared.Sample.{Sample}
 use Rattle.connection.specs.declared.Connection.{Connection}
-use Rattle.connection.specs.Records.{mostBytes, mostSamples, stateInRange, bytesInRange, samplesOf, inRange}
+use Rattle.connection.specs.Records.{mostBytes, mostSamples, inRange}
+use Rattle.connection.proofs.RecordLaws.{sound}
 use Rattle.congestion.specs.Echoes.{isAhead}
-use Rattle.congestion.specs.Phases.{isEarly, sampled, phaseInRange, isValidated}
+use Rattle.congestion.specs.Phases.{largestInitial, isEarly, sampled, phaseInRange, isValidated}
 use Rattle.congestion.specs.Calls.{echoReply, sampleReply, phaseReply}
 
 -- what is known of a record in range
 pub ranges : (c : Connection) → inRange c ≡ true → (c .window ≤ mostBytes) × (c .count ≤ mostSamples)
-unfolding inRange
-ranges c e =
-    let window = within 1 (c .window) mostBytes in
-    let ssthresh = leb (c .ssthresh) mostBytes in
-    let state = stateInRange (c .state) in
-    let count = leb (c .count) mostSamples in
-    let four = both-true (window && ssthresh && state && count) (bytesInRange (samplesOf c)) e .0 in
-    let three = both-true (window && ssthresh && state) count four in
-    let two = both-true (window && ssthresh) state (three .0) .0 in
-    (within-high 1 (c .window) mostBytes (both-true window ssthresh two .0), leb-true (c .count) mostSamples (three .1))
+ranges c e = let s = sound c e in (s .window-high, s .count-high)
 
 -- what is known of a round trip in range
 pub round-trip : (rtt initial : ℕ) → phaseInRange rtt initial ≡ true → rtt ≤ longestRtt
 unfolding phaseInRange
-round-trip rtt initial e = within-high 1 rtt longestRtt (both-true (within 1 rtt longestRtt) (within 1 initial 65535) e .0)
+round-trip rtt initial e = within-high 1 rtt longestRtt (both-true (within 1 rtt longestRtt) (within 1 initial largestInitial) e .0)
 
 module _ (c : Connection) where
   -- ---- an echo

@@ -4,3 +4,8 @@ pub mod SampleLaws
 pub mod PipeLaws
 pub mod PhaseLaws
 pub mod CallLaws
+pub mod PipeClaims
+pub mod EchoClaims
+pub mod SampleClaims
+pub mod PhaseClaims
+pub mod Claims

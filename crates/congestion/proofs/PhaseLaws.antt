@@ -5,13 +5,13 @@ use mathlib.Core.Path.{_≡_}
 use Rattle.connection.specs.declared.Moment.the-variants.{At}
 use Rattle.connection.specs.declared.Connection.{Connection}
 use Rattle.connection.specs.Records.{withPeriod}
-use Rattle.congestion.specs.Phases.{isOver, startedAt, adjusted, nonValidated}
+use Rattle.congestion.specs.Phases.{isOver, startedAt, adjusted, runOn}
 
 module _ (initial time : ℕ) (c : Connection) where
-  pub period-over : isOver time (c .period) ≡ true → withPeriod (adjusted initial c) (At time) ≡ nonValidated initial time c
-  unfolding nonValidated
+  pub period-over : isOver time (c .period) ≡ true → withPeriod (adjusted initial c) (At time) ≡ runOn initial time c
+  unfolding runOn
   period-over e = simp e
 
-  pub period-on : isOver time (c .period) ≡ false → withPeriod c (startedAt time (c .period)) ≡ nonValidated initial time c
-  unfolding nonValidated
+  pub period-on : isOver time (c .period) ≡ false → withPeriod c (startedAt time (c .period)) ≡ runOn initial time c
+  unfolding runOn
   period-on e = simp e

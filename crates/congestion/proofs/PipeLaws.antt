@@ -9,7 +9,7 @@ use lib.ListN.{length, getD, take, drop}
 use Rattle.common.proofs.Lists.{part-cons}
 use Rattle.connection.specs.declared.Sample.{Sample}
 use Rattle.congestion.specs.Phases.{orGreater, pipeAck}
-use Rattle.congestion.proofs.SampleLaws.{blank}
+use Rattle.connection.specs.Claims.{noSample}
 
 module _ (limit time : ℕ) (l : List Sample) (n : ℕ) where
   -- pipeACK of the samples from place i on, of the first n
@@ -20,12 +20,12 @@ module _ (limit time : ℕ) (l : List Sample) (n : ℕ) where
   unfolding pipeAck
   none-yet = let e : n - n ≡ 0 = omega arith in rw e refl
 
-  one-more : (i : ℕ) → n ≤ length l → i < n → from i ≡ orGreater limit time (getD l i blank) (from (suc i))
+  one-more : (i : ℕ) → n ≤ length l → i < n → from i ≡ orGreater limit time (getD l i noSample) (from (suc i))
   unfolding pipeAck
-  one-more i long h = ap (pipeAck limit time) (part-cons l i n blank h long)
+  one-more i long h = ap (pipeAck limit time) (part-cons l i n noSample h long)
 
   -- one place back
-  pub further : n ≤ length l → (i : ℕ) → 0 < i → i ≤ n → orGreater limit time (getD l (i - 1) blank) (from i) ≡ from (i - 1)
+  pub further : n ≤ length l → (i : ℕ) → 0 < i → i ≤ n → orGreater limit time (getD l (i - 1) noSample) (from i) ≡ from (i - 1)
   further long zero p h = absurd (omega arith)
   further long (suc i) p h = let e : suc i - 1 ≡ i = omega arith in rw e (sym (one-more i long (omega arith)))
 

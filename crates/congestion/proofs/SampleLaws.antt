@@ -1,27 +1,20 @@
 -- Laws of the samples: the newest one, and the ones that stay when one is added. Assumes nothing.
 use Prim.Native.Nat.{ℕ, zero, suc, _+_, _≤_, min}
 use mathlib.Core.Bool.{true, false}
-use mathlib.Core.List.{List, [], _∷_, map}
-use mathlib.Core.Path.{_≡_, refl, sym, ap₂, _∙_}
+use mathlib.Core.List.{List, [], _∷_}
+use mathlib.Core.Path.{_≡_, refl, ap₂}
 use native.Mathlib.Omega.{arith}
 use lib.Dec.{ltb}
-use lib.ListN.{length, getD, take, length-map}
+use lib.ListN.{length, getD, take}
 use Rattle.connection.specs.declared.Sample.{Sample}
 use Rattle.connection.specs.declared.Connection.{Connection}
 use Rattle.connection.specs.Records.{mostSamples, isBefore, withSamples}
+use Rattle.connection.specs.Claims.{noSample}
 use Rattle.congestion.specs.Phases.{beforeNewest, isEarly, sampled}
-
--- what stands for an element where a list has none
-abbrev pub blank : Sample
-blank = record { time = 0; bytes = 0 }
-
--- what a need is handed of a field that is an array of structs: the length of what its elements are made into
-pub length-mapped : (X Y : Type 0) (f : X → Y) (l : List X) (n : ℕ) → length (map f l) ≡ n → length l ≡ n
-length-mapped X Y f l n e = sym (length-map l f) ∙ e
 
 -- ---- a time that is early
 
-newest : (time n : ℕ) (l : List Sample) → 1 ≤ n → 1 ≤ length l → ltb time (getD l 0 blank .time) ≡ beforeNewest time (take n l)
+newest : (time n : ℕ) (l : List Sample) → 1 ≤ n → 1 ≤ length l → ltb time (getD l 0 noSample .time) ≡ beforeNewest time (take n l)
 newest time zero l h k = absurd (omega arith)
 newest time (suc n) [] h k = absurd (omega arith)
 newest time (suc n) (x ∷ l) h k = refl
@@ -35,13 +28,13 @@ module _ (time : ℕ) (c : Connection) where
   unfolding isEarly
   not-early e z = simp (e, z)
 
-  pub early-by : isBefore time (c .period) ≡ false → (c .count ≡ 0 → ⊥) → length (c .samples) ≡ 5 → ltb time (getD (c .samples) 0 blank .time) ≡ isEarly time c
+  pub early-by : isBefore time (c .period) ≡ false → (c .count ≡ 0 → ⊥) → length (c .samples) ≡ 5 → ltb time (getD (c .samples) 0 noSample .time) ≡ isEarly time c
   unfolding isEarly
   early-by e n k = simp e (newest time (c .count) (c .samples) (omega arith) (omega arith))
 
 -- ---- a sample that is added
 
-front : (l : List Sample) → 4 ≤ length l → getD l 0 blank ∷ getD l 1 blank ∷ getD l 2 blank ∷ getD l 3 blank ∷ [] ≡ take 4 l
+front : (l : List Sample) → 4 ≤ length l → getD l 0 noSample ∷ getD l 1 noSample ∷ getD l 2 noSample ∷ getD l 3 noSample ∷ [] ≡ take 4 l
 front [] h = absurd (omega arith)
 front (a ∷ []) h = absurd (omega arith)
 front (a ∷ b ∷ []) h = absurd (omega arith)
@@ -50,5 +43,5 @@ front (a ∷ b ∷ c ∷ d ∷ l) h = refl
 
 -- by the number of samples afterwards
 pub added : (c : Connection) (s : Sample) (n : ℕ) → n ≡ min (c .count + 1) mostSamples → length (c .samples) ≡ 5
-    → withSamples c (s ∷ getD (c .samples) 0 blank ∷ getD (c .samples) 1 blank ∷ getD (c .samples) 2 blank ∷ getD (c .samples) 3 blank ∷ []) n ≡ sampled c s
+    → withSamples c (s ∷ getD (c .samples) 0 noSample ∷ getD (c .samples) 1 noSample ∷ getD (c .samples) 2 noSample ∷ getD (c .samples) 3 noSample ∷ []) n ≡ sampled c s
 added c s n e k = ap₂ (λ (l : List Sample) (m : ℕ). withSamples c (s ∷ l) m) (front (c .samples) (omega arith)) e

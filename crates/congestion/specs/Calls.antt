@@ -10,7 +10,7 @@ use Rattle.connection.specs.declared.Sample.{Sample}
 use Rattle.connection.specs.declared.Connection.{Connection}
 use Rattle.connection.specs.Records.{mostBytes, inRange, withPeriod}
 use Rattle.congestion.specs.Echoes.{isAhead, reacted}
-use Rattle.congestion.specs.Phases.{isEarly, sampled, phaseInRange, isValidated, nonValidated}
+use Rattle.congestion.specs.Phases.{isEarly, sampled, phaseInRange, isValidated, runOn}
 
 -- whether an echo is reacted to; "MSS 1 to 65,535", else 7
 abbrev pub echoReply : Connection → ℕ → ℕ → Reply Bool
@@ -33,7 +33,7 @@ phaseReply c rtt initial time = pick (inRange c && phaseInRange rtt initial) (pi
 -- a call that finds it validated ends the period
 abbrev pub afterPhase : Connection → ℕ → ℕ → Reply Bool → Connection
 afterPhase c initial time (answer true) = withPeriod c Absent
-afterPhase c initial time (answer false) = nonValidated initial time c
+afterPhase c initial time (answer false) = runOn initial time c
 afterPhase c initial time (refuse n) = c
 
 -- the calls: what each says, and what it leaves of the record

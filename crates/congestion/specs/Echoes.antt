@@ -7,7 +7,7 @@ use Rattle.connection.specs.declared.Mark.the-variants.{Absent, At}
 use Rattle.connection.specs.declared.Connection.{Connection}
 use Rattle.connection.specs.Records.{withWindow, withSsthresh, withMark}
 
--- "with no mark, or whose acknowledgement is ahead of the mark by 1 to 2^31 - 1 modulo 2^32"
+-- "with no mark, or whose acknowledgement is ahead of the mark by 1 to 2^31 - 1 modulo 2^32", of two numbers of 32 bits
 unfoldable pub isAhead : ℕ → Mark → Bool
 isAhead acknowledgement Absent = true
 isAhead acknowledgement (At mark) = within 1 ((acknowledgement + 2 ^ 32 - mark) % 2 ^ 32) (2 ^ 31 - 1)

@@ -2,3 +2,4 @@ pub mod Echoes
 pub mod Phases
 pub mod Calls
 pub mod Replies
+pub mod Claims

@@ -28,25 +28,32 @@ beforeNewest time (newest ∷ others) = ltb time (newest .time)
 unfoldable pub isEarly : ℕ → Connection → Bool
 isEarly time c = pick (isBefore time (c .period)) true (beforeNewest time (samplesOf c))
 
--- "up to five samples (time, bytes), a new one in an empty place, else that of the earliest added"
+-- "up to five samples (time, bytes), a new one in an empty place, else that of the earliest added": the new one stands in front, the others move one place on, and what stood in the last
+-- place is gone: an empty place's content, or the earliest sample
 abbrev pub sampled : Connection → Sample → Connection
 sampled c sample = withSamples c (sample ∷ take (mostSamples - 1) (c .samples)) (min (c .count + 1) mostSamples)
 
 -- ---- the phase
 
 -- "T 1 to 60,000,000 microseconds", "IW 1 to 65,535"
-unfoldable pub phaseInRange : ℕ → ℕ → Bool
-phaseInRange rtt initial = within 1 rtt longestRtt && within 1 initial 65535
+abbrev pub largestInitial : ℕ
+largestInitial = 65535
 
--- "max(3T, 1,000,000)"
-abbrev pub oldest : ℕ → ℕ
-oldest rtt = max (3 * rtt) 1000000
+unfoldable pub phaseInRange : ℕ → ℕ → Bool
+phaseInRange rtt initial = within 1 rtt longestRtt && within 1 initial largestInitial
+
+-- "max(3T, 1,000,000)": the greatest age at which a sample counts
+abbrev pub leastAge : ℕ
+leastAge = 1000000
+
+abbrev pub longestAge : ℕ → ℕ
+longestAge rtt = max (3 * rtt) leastAge
 
 -- "not older than" a limit
 unfoldable pub isRecent : ℕ → ℕ → Sample → Bool
 isRecent limit time sample = leb time (sample .time + limit)
 
--- "the greatest sample not older than max(3T, 1,000,000), undefined if none": one sample more, which counts if it is recent
+-- a sample and what others gave: the greater of the two, if the sample counts
 abbrev pub greaterOf : ℕ → Option ℕ → ℕ
 greaterOf bytes none = bytes
 greaterOf bytes (some most) = max bytes most
@@ -54,6 +61,7 @@ greaterOf bytes (some most) = max bytes most
 unfoldable pub orGreater : ℕ → ℕ → Sample → Option ℕ → Option ℕ
 orGreater limit time sample others = pick (isRecent limit time sample) (some (greaterOf (sample .bytes) others)) others
 
+-- "pipeACK is the greatest sample not older than .., undefined if none"
 unfoldable pub pipeAck : ℕ → ℕ → List Sample → Option ℕ
 pipeAck limit time [] = none
 pipeAck limit time (sample ∷ others) =
@@ -66,12 +74,15 @@ validated window none = true
 validated window (some bytes) = leb window (2 * bytes)
 
 unfoldable pub isValidated : ℕ → ℕ → Connection → Bool
-isValidated rtt time c = validated (c .window) (pipeAck (oldest rtt) time (samplesOf c))
+isValidated rtt time c = validated (c .window) (pipeAck (longestAge rtt) time (samplesOf c))
 
 -- "for more than 300,000,000 microseconds since the call that first found it so"
+abbrev pub longestPeriod : ℕ
+longestPeriod = 300000000
+
 unfoldable pub isOver : ℕ → Moment → Bool
 isOver time Absent = false
-isOver time (At start) = ltb (start + 300000000) time
+isOver time (At start) = ltb (start + longestPeriod) time
 
 -- the period's start, by a call that finds the phase non-validated: its own time if none runs
 unfoldable pub startedAt : ℕ → Moment → Moment
@@ -82,6 +93,6 @@ startedAt time (At start) = At start
 abbrev pub adjusted : ℕ → Connection → Connection
 adjusted initial c = withWindow (withSsthresh c (max (c .ssthresh) (3 * c .window / 4))) (halved (c .window) initial)
 
--- a call that finds it non-validated: the adjustment "and the period starts again", or the period goes on
-unfoldable pub nonValidated : ℕ → ℕ → Connection → Connection
-nonValidated initial time c = pick (isOver time (c .period)) (withPeriod (adjusted initial c) (At time)) (withPeriod c (startedAt time (c .period)))
+-- the record after a call that finds it non-validated: the adjustment "and the period starts again", or the period goes on
+unfoldable pub runOn : ℕ → ℕ → Connection → Connection
+runOn initial time c = pick (isOver time (c .period)) (withPeriod (adjusted initial c) (At time)) (withPeriod c (startedAt time (c .period)))

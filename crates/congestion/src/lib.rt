@@ -7,7 +7,7 @@ ghost use lib.ListN.{take};
 ghost use Rattle.rates.specs.Window.{longestRtt};
 ghost use Rattle.connection.specs.Records.{mostBytes, mostSamples};
 ghost use Rattle.congestion.specs.Echoes.{isAhead, halved, reacted};
-ghost use Rattle.congestion.specs.Phases.{sampleOf, isEarly, isRecent, orGreater, pipeAck, validated, isValidated, isOver, startedAt, adjusted, nonValidated, sampled, phaseInRange};
+ghost use Rattle.congestion.specs.Phases.{sampleOf, isEarly, isRecent, orGreater, pipeAck, validated, isValidated, isOver, startedAt, adjusted, runOn, sampled, phaseInRange};
 ghost use Rattle.congestion.specs.Calls.{congestionCalls};
 ghost use Rattle.congestion.specs.Replies.{echoTold, addedTold, phaseTold, pipeAckTold};
 use connection::Connection;
@@ -28,7 +28,7 @@ use refusals::Refusal;
 use refusals::in_range;
 use std::num::wrapping_sub_u32;
 
-// Half of the sequence numbers: one that is less than this ahead of another comes after it.
+// Half of the sequence numbers: one that is ahead of another by 1 or more, and by less than this, comes after it.
 const HALF_SEQUENCE: u32 = 2_147_483_648;
 
 // A sample counts for three round trips, and for a second at least, in microseconds.
@@ -40,12 +40,12 @@ const LEAST_AGE: u64 = 1_000_000;
 const LONGEST_PERIOD: u64 = 300_000_000;
 
 // The largest initial window, in bytes.
-pub const LARGEST_INITIAL: u64 = 65_535;
+const LARGEST_INITIAL: u64 = 65_535;
 
 pub enum EchoAnswer {
     // Window and ssthresh were set anew, and the mark.
     Reacted,
-    // The echo belongs to a window that was reacted to before.
+    // The acknowledgement is not ahead of the mark: that window was reacted to before.
     Ignored,
     Refused(Refusal),
 }
@@ -219,7 +219,7 @@ enum PipeAck {
     Bytes(u64),
 }
 
-// Whether a sample is not older than a limit. One from after the present time is not.
+// Whether a sample is not older than a limit. One of a later time than the present is not older.
 fn is_recent(sample: Sample, limit: u64, time: u64) -> bool
     ensures { λ r. ⌜ r ≡ isRecent limit time sample ⌝ }
 {
@@ -312,7 +312,7 @@ fn adjust(connection: Connection, initial_window: u64) -> Connection
 // The record after a call that found it non-validated.
 fn run_on(connection: Connection, initial_window: u64, time: u64) -> Connection
     requires { ⌜ connection .window ≤ mostBytes ⌝ }
-    ensures { λ r. ⌜ r ≡ nonValidated «initial_window» time connection ⌝ }
+    ensures { λ r. ⌜ r ≡ runOn «initial_window» time connection ⌝ }
 {
     let period = connection.period;
     if is_over(period, time) {
@@ -345,8 +345,8 @@ fn judge(connection: Connection, rtt: u64, time: u64) -> bool
 }
 
 // The phase of the connection at a time, judged by the window as it is. The first call that finds it non-validated starts
-// a period, and a call that finds it validated ends it; a call more than 300 seconds after the start lowers the window, raises
-// ssthresh and starts the period again.
+// a period, and one that finds it validated ends it. One that finds it non-validated more than 300 seconds after the start
+// adjusts window and ssthresh, and starts the period again.
 pub fn phase(connection: Connection, rtt: u64, initial_window: u64, time: u64) -> Phased
     ensures answer { λ r. ⌜ phaseTold (r .answer) ≡ congestionCalls .phase connection rtt «initial_window» time .said ⌝ }
     ensures record { λ r. ⌜ r .connection ≡ congestionCalls .phase connection rtt «initial_window» time .left ⌝ }

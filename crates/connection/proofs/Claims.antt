@@ -18,7 +18,7 @@ use Rattle.connection.specs.declared.State.the-variants.{Idle, Asked, Qu
 use Rattle.connection.specs.declared.Sample.{Sample}
 use Rattle.connection.specs.declared.Connection.{Connection}
 use Rattle.connection.specs.Records.{mostBytes, samplesOf, stateInRange, bytesInRange, inRange, freshWith, freshReply, withSamples}
-use Rattle.connection.specs.Claims.{StateInRange, noSample, Ranges, Fresh}
+use Rattle.connection.specs.Claims.{StateInRange, noSample, Ranges, Parts, Fresh}
 use Rattle.connection.proofs.RecordLaws.{fresh-ranges, sound, sound-back, asked-ranges, quick-ranges}
 
 -- ---- states and samples
@@ -74,6 +74,17 @@ ranges = record {
         samples-ok = samples-ok (c .count) (c .samples) (i .samples-in);
       });
   places = places-by;
+}
+
+pub parts : Parts
+parts = record {
+  state = λ s w t l m p k d new. refl;
+  window = λ s w t l m p k d new. refl;
+  ssthresh = λ s w t l m p k d new. refl;
+  last = λ s w t l m p k d new. refl;
+  mark = λ s w t l m p k d new. refl;
+  samples = λ s w t l m p k d new count. refl;
+  period = λ s w t l m p k d new. refl;
 }
 
 -- ---- the fresh record

@@ -9,10 +9,7 @@ use lib.ListN.{length, getD, take, drop}
 use Rattle.common.proofs.Lists.{part-cons}
 use Rattle.connection.specs.declared.Sample.{Sample}
 use Rattle.connection.specs.Records.{mostBytes, bytesInRange}
-
--- what stands for an element where a list has none
-abbrev pub blank : Sample
-blank = record { time = 0; bytes = 0 }
+use Rattle.connection.specs.Claims.{noSample}
 
 module _ (l : List Sample) (n : ℕ) (long : n ≤ length l) (i : ℕ) where
   -- whether the samples from place i on, of the first n, are in range
@@ -22,16 +19,16 @@ module _ (l : List Sample) (n : ℕ) (long : n ≤ length l) (i : ℕ) where
   abbrev pub after : List Sample
   after = take (n - (i + 1)) (drop (i + 1) l)
 
-  cons : i < n → rest ≡ getD l i blank ∷ after
-  cons h = part-cons l i n blank h long ∙ ap (λ (k : ℕ). getD l i blank ∷ take (n - k) (drop k l)) {x = suc i} {y = i + 1} (omega arith)
+  cons : i < n → rest ≡ getD l i noSample ∷ after
+  cons h = part-cons l i n noSample h long ∙ ap (λ (k : ℕ). getD l i noSample ∷ take (n - k) (drop k l)) {x = suc i} {y = i + 1} (omega arith)
 
-  pub one-out : i < n → mostBytes < getD l i blank .bytes → false ≡ bytesInRange rest
+  pub one-out : i < n → mostBytes < getD l i noSample .bytes → false ≡ bytesInRange rest
   unfolding bytesInRange
-  one-out h o = rw (cons h) (simp (lt-leb (getD l i blank .bytes) mostBytes o))
+  one-out h o = rw (cons h) (simp (lt-leb (getD l i noSample .bytes) mostBytes o))
 
-  pub one-in : i < n → getD l i blank .bytes ≤ mostBytes → bytesInRange rest ≡ bytesInRange after
+  pub one-in : i < n → getD l i noSample .bytes ≤ mostBytes → bytesInRange rest ≡ bytesInRange after
   unfolding bytesInRange
-  one-in h o = rw (cons h) (simp (le-leb (getD l i blank .bytes) mostBytes o))
+  one-in h o = rw (cons h) (simp (le-leb (getD l i noSample .bytes) mostBytes o))
 
   pub none-left : n ≤ i → true ≡ bytesInRange rest
   unfolding bytesInRange

@@ -8,11 +8,13 @@ use lib.ListN.{length, getD}
 use Rattle.refusals.specs.Reply.{answer, refuse}
 use Rattle.connection.specs.declared.State.{State}
 use Rattle.connection.specs.declared.State.the-variants.{Idle, Asked, Quick}
+use Rattle.connection.specs.declared.Moment.{Moment}
 use Rattle.connection.specs.declared.Moment.the-variants as Moments
+use Rattle.connection.specs.declared.Mark.{Mark}
 use Rattle.connection.specs.declared.Mark.the-variants as Marks
 use Rattle.connection.specs.declared.Sample.{Sample}
 use Rattle.connection.specs.declared.Connection.{Connection}
-use Rattle.connection.specs.Records.{samplesOf, inRange, freshWith, freshReply, withSamples}
+use Rattle.connection.specs.Records.{samplesOf, inRange, freshWith, freshReply, withState, withWindow, withSsthresh, withLastRequest, withMark, withSamples, withPeriod}
 
 -- the open request's "code .. 1 to 15" and its nonce "below 2^30"; the window before, as a window, "1 to 2^40"
 abbrev pub StateInRange : State → Type 0
@@ -39,6 +41,30 @@ pub record Ranges : Type 0 where
   pub suffices : (c : Connection) → InRange c → inRange c ≡ true
   -- it looks at no place behind the samples
   pub places : (c : Connection) (other : List Sample) → samplesOf (withSamples c other (c .count)) ≡ samplesOf c → inRange (withSamples c other (c .count)) ≡ inRange c
+
+-- a record of these parts: state, window, ssthresh, last request, mark, places, count, period
+abbrev pub made : State → ℕ → ℕ → Moment → Mark → List Sample → ℕ → Moment → Connection
+made state window ssthresh last mark samples count period = record {
+  state = state;
+  window = window;
+  ssthresh = ssthresh;
+  «last_request» = last;
+  mark = mark;
+  samples = samples;
+  count = count;
+  period = period;
+}
+
+-- a record with one part of it changed: that part is the new one, and every other is as it was
+pub record Parts : Type 0 where
+  pub state : (s : State) (w t : ℕ) (l : Moment) (m : Mark) (p : List Sample) (k : ℕ) (d : Moment) (new : State) → withState (made s w t l m p k d) new ≡ made new w t l m p k d
+  pub window : (s : State) (w t : ℕ) (l : Moment) (m : Mark) (p : List Sample) (k : ℕ) (d : Moment) (new : ℕ) → withWindow (made s w t l m p k d) new ≡ made s new t l m p k d
+  pub ssthresh : (s : State) (w t : ℕ) (l : Moment) (m : Mark) (p : List Sample) (k : ℕ) (d : Moment) (new : ℕ) → withSsthresh (made s w t l m p k d) new ≡ made s w new l m p k d
+  pub last : (s : State) (w t : ℕ) (l : Moment) (m : Mark) (p : List Sample) (k : ℕ) (d new : Moment) → withLastRequest (made s w t l m p k d) new ≡ made s w t new m p k d
+  pub mark : (s : State) (w t : ℕ) (l : Moment) (m : Mark) (p : List Sample) (k : ℕ) (d : Moment) (new : Mark) → withMark (made s w t l m p k d) new ≡ made s w t l new p k d
+  pub samples : (s : State) (w t : ℕ) (l : Moment) (m : Mark) (p : List Sample) (k : ℕ) (d : Moment) (new : List Sample) (count : ℕ)
+      → withSamples (made s w t l m p k d) new count ≡ made s w t l m new count d
+  pub period : (s : State) (w t : ℕ) (l : Moment) (m : Mark) (p : List Sample) (k : ℕ) (d new : Moment) → withPeriod (made s w t l m p k d) new ≡ made s w t l m p k new
 
 -- "A fresh record is idle with no last request": nor has it a mark, a sample or a period
 pub record IsFresh (window ssthresh : ℕ) (c : Connection) : Type 0 where

@@ -23,7 +23,7 @@ pub struct OpenRequest {
     pub nonce: u32,
 }
 
-// What is kept while the window is the Quick-Start window: the window before.
+// What is kept while quick: the window before the Quick-Start window was taken.
 pub struct Before {
     pub window: u64,
 }

@@ -20,6 +20,13 @@ pub record Outcome (A B : Type 0) : Type 0 where
   pub said : Reply A
   pub left : B
 
+-- a call that says a refusal, or an answer, and leaves this
+abbrev pub refusing : {A B : Type 0} → ℕ → B → Outcome A B
+refusing n left = record { said = refuse n; left = left }
+
+abbrev pub answering : {A B : Type 0} → A → B → Outcome A B
+answering a left = record { said = answer a; left = left }
+
 -- a call whose refusals change nothing, by its reply
 abbrev pub outcomeOf : {A : Type 0} → A → Reply A → Outcome (Unit {0}) A
 outcomeOf old reply = record { said = done reply; left = leaves old reply }

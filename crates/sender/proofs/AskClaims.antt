@@ -5,12 +5,12 @@ use mathlib.Core.List.{List}
 use mathlib.Core.Logic.{_⊎_, inl, inr, ⊎-elim}
 use mathlib.Core.Path.{_≡_, refl, sym, ap, ap₂, subst, _∙_}
 use native.Mathlib.Omega.{arith}
-use borrow.Author.Tests.{le-leb, lt-ltb, le-ltb, eq-eqb}
+use borrow.Author.Tests.{le-leb, lt-ltb, le-ltb, eq-eqb, ltb-false}
 use lib.Dec.{lit<}
 use lib.ListN.{length}
 use Rattle.common.proofs.Choice.{clash, both-true, in-within, le-or-gt}
-use Rattle.refusals.specs.Reply.{Reply, answer, refuse, leaves, done, outcomeOf}
-use Rattle.refusals.proofs.ReplyLaws.{answered, same-outcome}
+use Rattle.refusals.specs.Reply.{Reply, answer, refuse, leaves, done, outcomeOf, refusing}
+use Rattle.refusals.proofs.ReplyLaws.{answered, passed, let-through, same-outcome}
 use Rattle.rates.specs.Steps.{topCode}
 use Rattle.rates.specs.Window.{longestRtt}
 use Rattle.options.specs.Wire.{optionLength, nonceLimit, fieldsFit, optionBytes}
@@ -28,7 +28,7 @@ use Rattle.connection.specs.declared.Connection.{Connection}
 use Rattle.connection.specs.Records.{isBefore, inRange, freshWith, withState, withLastRequest}
 use Rattle.connection.proofs.Claims.{ranges}
 use Rattle.sender.specs.Calls.{Wish, Sending, sending, askInRange, isBusy, isSoon, asked, askReply, Sender, senderCalls}
-use Rattle.sender.specs.Claims.{refusing, AskGiven, Sent, Asks, FreshAsks}
+use Rattle.sender.specs.Claims.{AskGiven, Sent, Asks, SentOnly, FreshAsks}
 use Rattle.sender.proofs.CallLaws.{ask-facts, ask-early, ask-busy, ask-soon, ask-sent}
 
 -- ---- ranges
@@ -243,3 +243,34 @@ freshAsks window ssthresh w buffer g =
     (sym
     (ask-sent c w buffer (ok c w buffer g) (fit c w buffer g) (not-before (w .time) (c .«last_request») (λ last e. absurd (clash (cc)))) (not-busy (c .state) refl)
     (not-soon (w .time) (w .rtt) (c .«last_request») (λ last e. absurd (clash (cc)))) (leaves buffer (requestWritten buffer (w .code) (w .qs) (w .nonce))) refl))
+
+-- ---- what was accepted
+
+-- how a record stands that an asking finds free
+idle-if : (s : State) → isBusy s ≡ false → s ≡ Idle
+unfolding isBusy
+idle-if Idle e = refl
+idle-if (Asked q) e = absurd (clash (cc))
+idle-if (Quick b) e = absurd (clash (cc))
+
+waited-if : (time rtt : ℕ) (m : Moment) → isSoon time rtt m ≡ false → (last : ℕ) → m ≡ At last → last + rtt ≤ time
+unfolding isSoon
+waited-if time rtt Absent e last f = absurd (clash (cc))
+waited-if time rtt (At t) e last f = let same : t ≡ last = cc in let h = ltb-false time (t + rtt) e in omega arith
+
+pub sentOnly : SentOnly
+sentOnly c w buffer byte e = by (askReply c w buffer) refl e
+  where
+    by : (r : Reply Sending) → askReply c w buffer ≡ r → done r ≡ answer tt
+        → AskGiven c w buffer × (c .state ≡ Idle) × ((last : ℕ) → c .«last_request» ≡ At last → last + w .rtt ≤ w .time) × Sent c w (senderCalls .ask c w buffer .left)
+    by (refuse n) f d = absurd (clash (cc))
+    by (answer s) f d =
+        let all = passed (testOf c w buffer) s _ 7 (sym f) in
+        let late = let-through (isBefore (w .time) (c .«last_request»)) s _ 9 (all .1) in
+        let free = let-through (isBusy (c .state)) s _ 10 (late .1) in
+        let waited = let-through (isSoon (w .time) (w .rtt) (c .«last_request»)) s _ 10 (free .1) in
+        let b = both-true (inRange c) (askInRange (w .code) (w .ttl) (w .nonce) (w .rtt) (length buffer)) (all .0) in
+        let g = given c w buffer (b .0) (b .1) in
+        let i = idle-if (c .state) (free .0) in
+        let h = waited-if (w .time) (w .rtt) (c .«last_request») (waited .0) in
+        (g, i, h, said-sent c w buffer g byte i h .1)

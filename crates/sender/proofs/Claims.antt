@@ -6,7 +6,7 @@ use mathlib.Core.Logic.{_⊎_, inl, inr, ⊎-elim}
 use mathlib.Core.Path.{_≡_, refl, sym, ap, subst, _∙_}
 use native.Mathlib.Nat.{le-refl}
 use native.Mathlib.Omega.{arith}
-use lib.Dec.{leb, eqb, lit≤}
+use lib.Dec.{leb, eqb, lit<, lit≤}
 use lib.ListN.{length}
 use Rattle.common.specs.Choice.{pick, within}
 use Rattle.common.proofs.Choice.{clash, chosen, by-test, by-ltb, both-true, within-low, within-high, in-within, le-or-gt}
@@ -14,10 +14,11 @@ use Rattle.refusals.specs.Reply.{Reply, answer, refuse, Outcome}
 use Rattle.refusals.proofs.ReplyLaws.{same-answer, passed, let-through, through, left-by, left-as-it-was, refused-by}
 use Rattle.rates.specs.Window.{transportInRange, windowBytes}
 use Rattle.rates.proofs.WindowLaws.{window-most}
+use Rattle.options.specs.declared.request.Request.{Request}
 use Rattle.options.specs.declared.response.Response.{Response}
-use Rattle.options.specs.Wire.{optionLength, wordOf, rateIn, ttlIn, nonceIn}
+use Rattle.options.specs.Wire.{optionLength, fieldsFit, optionBytes, wordOf, rateIn, ttlIn, nonceIn}
 use Rattle.options.specs.Nonces.{fieldsUpTo, agree}
-use Rattle.options.specs.Requests.{requestWritten}
+use Rattle.options.specs.Requests.{isRequest, requestWritten}
 use Rattle.options.specs.Responses.{isResponse, responseRead}
 use Rattle.connection.specs.declared.OpenRequest.{OpenRequest}
 use Rattle.connection.specs.declared.Before.{Before}
@@ -26,11 +27,12 @@ use Rattle.connection.specs.declared.State.the-variants.{Idle, Asked, Quick}
 use Rattle.connection.specs.declared.Moment.the-variants.{Absent, At}
 use Rattle.connection.specs.declared.Mark.the-variants as Marks
 use Rattle.connection.specs.declared.Connection.{Connection}
-use Rattle.connection.specs.Records.{mostBytes, stateInRange, bytesInRange, isBefore, inRange, withState, withWindow}
+use Rattle.connection.specs.Records.{mostBytes, stateInRange, bytesInRange, isBefore, inRange, freshWith, withState, withWindow}
 use Rattle.connection.specs.Claims.{StateInRange, InRange}
+use Rattle.connection.proofs.Claims.{ranges}
 use Rattle.connection.proofs.PartLaws.{state-part, window-part, request-part}
-use Rattle.sender.specs.Calls.{Wish, Transport, transport, Sending, sending, asked, askInRange, isBusy, isSoon, askReply, whileAsked, whileQuick, judged, taken, responseReply, granted, afterResponse, acknowledgedReply, lossReply, giveUpReply, senderCalls}
-use Rattle.sender.specs.Claims.{Ours, SenderOnly, Responds, StaysInRange, Unchanged, Windows, respondingBy, ShutOut}
+use Rattle.sender.specs.Calls.{Wish, wish, Transport, transport, Sending, sending, asked, askInRange, isBusy, isSoon, askReply, whileAsked, whileQuick, judged, taken, responseReply, granted, afterResponse, acknowledgedReply, lossReply, giveUpReply, senderCalls}
+use Rattle.sender.specs.Claims.{Ours, SenderOnly, Sent, Asks, Responds, StaysInRange, Unchanged, Windows, askingBy, respondingBy, ShutOut}
 use Rattle.sender.proofs.CallLaws.{ask-facts}
 use Rattle.sender.proofs.CallLaws as laws
 use Rattle.sender.proofs.AskClaims.{asks, ask-only}
@@ -84,12 +86,12 @@ module _ (c : Connection) (response : List ℕ) (t : Transport) where
   by-said i (refuse n) e = by-test InRange (within 13 n 15) (λ ends. state-part c i Idle tt) (λ stays. i)
   by-said i (answer rate) e =
       let had = accepted-had c response t rate e in
-      let q = had .0 in
-      let fits = had .5 .rate in
-      let asked-in : (1 ≤ q .code) × (q .code ≤ 15) × (q .nonce < 1073741824) = subst StateInRange (had .2) (i .state-in) in
-      let same = had .4 in
+      let q = had .1 in
+      let fits = had .6 .rate in
+      let asked-in : (1 ≤ q .code) × (q .code ≤ 15) × (q .nonce < 1073741824) = subst StateInRange (had .3) (i .state-in) in
+      let same = had .5 in
       let high = fits .high in
-      let g = given c response t (passed (inRange c && transportInRange (t .rtt) (t .mss) (t .headers) && eqb (length response) optionLength) rate _ 7 (sym e) .0) in
+      let g = had .0 in
       let most = window-most rate (t .rtt) (t .mss) (t .headers) (omega (arith, asked-in .1)) (g .rtt-high) in
       granted-stays c (windowBytes rate (t .rtt) (t .mss) (t .headers)) i (omega arith)
 
@@ -220,6 +222,9 @@ waiting = record {
 abbrev granting : List ℕ
 granting = 27 ∷ 8 ∷ 2 ∷ 0 ∷ 0 ∷ 0 ∷ 0 ∷ 0 ∷ []
 
+abbrev buffer8 : List ℕ
+buffer8 = 0 ∷ 0 ∷ 0 ∷ 0 ∷ 0 ∷ 0 ∷ 0 ∷ 0 ∷ []
+
 module _ (respond : Connection → List ℕ → Transport → Outcome ℕ Connection) (a : Responds (respondingBy respond)) where
   -- it is accepted at code 2
   accepts-2 : respond waiting granting (transport 1 1 20) .said ≡ answer 2
@@ -229,10 +234,39 @@ module _ (respond : Connection → List ℕ → Transport → Outcome ℕ Connec
       (a .stays waiting granting (transport 1 1 20) _ _ (given waiting granting (transport 1 1 20) refl) refl refl
       (record { rate = record { low = lit≤ tt; high = lit≤ tt }; diff = refl; nonces = refl }) (lit≤ tt))
 
+module _ (ask : Connection → Wish → List ℕ → Outcome (Unit {0}) Sending) (a : Asks (askingBy ask)) where
+  -- a fresh record asks for code 2, and reading the buffer gives that code
+  sends-2 : (ask (freshWith 1 0) (wish 2 1 0 0 1 0) buffer8 .said ≡ answer tt) × Sent (freshWith 1 0) (wish 2 1 0 0 1 0) (ask (freshWith 1 0) (wish 2 1 0 0 1 0) buffer8 .left)
+  unfolding inRange stateInRange bytesInRange within
+  sends-2 =
+      a .sent (freshWith 1 0) (wish 2 1 0 0 1 0) buffer8
+      (record {
+        record-in = ranges .tested (freshWith 1 0) refl;
+        code-low = lit≤ tt;
+        code-high = lit≤ tt;
+        ttl-low = lit≤ tt;
+        ttl-high = lit≤ tt;
+        nonce-high = lit< tt;
+        rtt-low = lit≤ tt;
+        rtt-high = lit≤ tt;
+        room-is = refl;
+      })
+      (lit< tt) refl (λ last e. absurd (clash (cc)))
+
+-- what ours writes for code 1 does not read as code 2
+asks-for-1 : Asks (askingBy (λ c w buffer. senderCalls .ask c (wish 1 (w .ttl) (w .qs) (w .nonce) (w .rtt) (w .time)) buffer)) → ⊥
+unfolding inRange stateInRange bytesInRange within askInRange isBefore isBusy isSoon fieldsFit optionBytes isRequest wordOf
+asks-for-1 a =
+    let reads = sends-2 (λ c w buffer. senderCalls .ask c (wish 1 (w .ttl) (w .qs) (w .nonce) (w .rtt) (w .time)) buffer) a .1 .reads in
+    let rates : _≡_ {A = ℕ} 1 2 = ap (λ (r : Request). r .rate) (same-answer reads) in
+    absurd (omega arith)
+
 pub shutOut : ShutOut
 unfolding inRange stateInRange bytesInRange within transportInRange isResponse wordOf judged agree fieldsUpTo
 shutOut = record {
-  otherwise-ours = refl;
+  otherwise-ours = (refl, refl);
   refuses-everything = λ number left a. let e = accepts-2 _ a in clash (cc);
-  always-code-1 = λ a. let f : _≡_ {A = ℕ} 1 2 = same-answer (accepts-2 _ a) in absurd (omega arith);
+  refuses-every-asking = λ number left a. let e = sends-2 _ a .0 in clash (cc);
+  always-code-1 = λ left a. let f : _≡_ {A = ℕ} 1 2 = same-answer (accepts-2 _ a) in absurd (omega arith);
+  always-asks-1 = asks-for-1;
 }

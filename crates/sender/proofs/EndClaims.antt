@@ -5,7 +5,7 @@ use mathlib.Core.Logic.{_⊎_, inl, inr, ⊎-elim}
 use mathlib.Core.Path.{_≡_, refl, sym, ap, _∙_}
 use native.Mathlib.Omega.{arith}
 use Rattle.common.proofs.Choice.{clash, le-or-gt}
-use Rattle.refusals.specs.Reply.{Reply, refuse, outcomeOf}
+use Rattle.refusals.specs.Reply.{Reply, refuse, outcomeOf, refusing}
 use Rattle.connection.specs.declared.State.{State}
 use Rattle.connection.specs.declared.State.the-variants.{Idle, Asked, Quick}
 use Rattle.connection.specs.declared.Connection.{Connection}
@@ -13,7 +13,7 @@ use Rattle.connection.specs.Records.{mostBytes, inRange}
 use Rattle.connection.specs.Claims.{InRange}
 use Rattle.connection.proofs.Claims.{ranges}
 use Rattle.sender.specs.Calls.{acknowledgedReply, lossReply, giveUpReply, Sender, senderCalls}
-use Rattle.sender.specs.Claims.{refusing, Ends}
+use Rattle.sender.specs.Claims.{Ends}
 use Rattle.sender.proofs.CallLaws.{ack-out, ack-flight-out, ack-in, loss-out, loss-in, give-up-out, give-up-in}
 
 -- a record is in range, or the test says that it is not

@@ -9,7 +9,7 @@ use lib.Dec.{eqb}
 use lib.ListN.{length, getD}
 use Rattle.common.specs.Choice.{within}
 use Rattle.common.proofs.Choice.{clash, chosen, both-true, within-low, within-high, in-within, not-within, le-or-gt}
-use Rattle.refusals.specs.Reply.{Reply, answer, refuse, andThen}
+use Rattle.refusals.specs.Reply.{Reply, answer, refuse, andThen, refusing}
 use Rattle.refusals.proofs.ReplyLaws.{same-answer, passed, through}
 use Rattle.rates.specs.Window.{longestRtt, largestSegment, leastHeaders, mostHeaders, transportInRange, windowSegments, windowBytes}
 use Rattle.rates.proofs.WindowLaws.{transport-facts}
@@ -25,7 +25,7 @@ use Rattle.connection.specs.declared.Connection.{Connection}
 use Rattle.connection.specs.Records.{inRange, withState, withWindow}
 use Rattle.connection.proofs.Claims.{ranges}
 use Rattle.sender.specs.Calls.{Transport, whileAsked, judged, taken, responseReply, granted, afterResponse, Sender, senderCalls}
-use Rattle.sender.specs.Claims.{refusing, ResponseGiven, RateFits, Fits, quickWindow, Responds, AcceptedOnly}
+use Rattle.sender.specs.Claims.{ResponseGiven, RateFits, Fits, quickWindow, Responds, AcceptedOnly}
 use Rattle.sender.proofs.CallLaws.{rate-wrong, diff-wrong, judged-by, not-above, above, response-in}
 
 -- ---- ranges
@@ -235,7 +235,7 @@ module _ (s : Sender) (a : Responds s) (c : Connection) (response : List ℕ) (t
 
 module _ (c : Connection) (response : List ℕ) (t : Transport) (rate : ℕ) where
   abbrev Had : Type 0
-  Had = (q : OpenRequest) × (r : Response) × (c .state ≡ Asked q) × (responseRead response ≡ answer r) × (rate ≡ r .rate) × Fits q r
+  Had = ResponseGiven c response t × (q : OpenRequest) × (r : Response) × (c .state ≡ Asked q) × (responseRead response ≡ answer r) × (rate ≡ r .rate) × Fits q r
 
   fitted : (q : OpenRequest) (r : Response) → judged q r ≡ answer rate → (rate ≡ r .rate) × Fits q r
   unfolding judged agree fieldsUpTo
@@ -251,18 +251,18 @@ module _ (c : Connection) (response : List ℕ) (t : Transport) (rate : ℕ) whe
         },
       )
 
-  while-had : (st : State) → c .state ≡ st → whileAsked st (λ request. taken request response) ≡ answer rate → Had
-  while-had Idle f e = absurd (clash (cc))
-  while-had (Quick b) f e = absurd (clash (cc))
-  while-had (Asked q) f e =
+  while-had : ResponseGiven c response t → (st : State) → c .state ≡ st → whileAsked st (λ request. taken request response) ≡ answer rate → Had
+  while-had g Idle f e = absurd (clash (cc))
+  while-had g (Quick b) f e = absurd (clash (cc))
+  while-had g (Asked q) f e =
       let h = through (responseRead response) (judged q) rate e in
       let k = fitted q (h .0) (h .2) in
-      (q, h .0, f, h .1, k .0, k .1)
+      (g, q, h .0, f, h .1, k .0, k .1)
 
   pub accepted-had : senderCalls .respond c response t .said ≡ answer rate → Had
   accepted-had e =
       let p = passed (testOf c response t) rate _ 7 (sym e) in
-      while-had (c .state) refl (sym (p .1))
+      while-had (given c response t (p .0)) (c .state) refl (sym (p .1))
 
 pub acceptedOnly : AcceptedOnly
 acceptedOnly = accepted-had

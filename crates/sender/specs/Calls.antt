@@ -53,9 +53,13 @@ sending c request = record { connection = c; request = request }
 
 -- ---- asking
 
+-- the greatest TTL
+abbrev pub topTtl : ℕ
+topTtl = 255
+
 -- "a code asked of sender or ledger 1 to 15", "starting IP TTL 1 to 255", "nonces below 2^30", "T 1 to 60,000,000 microseconds", "option buffers exactly 8 bytes"
 unfoldable pub askInRange : ℕ → ℕ → ℕ → ℕ → ℕ → Bool
-askInRange code ttl nonce rtt room = within 1 code topCode && within 1 ttl 255 && ltb nonce nonceLimit && within 1 rtt longestRtt && eqb room optionLength
+askInRange code ttl nonce rtt room = within 1 code topCode && within 1 ttl topTtl && ltb nonce nonceLimit && within 1 rtt longestRtt && eqb room optionLength
 
 -- "while asked or quick"
 unfoldable pub isBusy : State → Bool

@@ -1,12 +1,12 @@
--- What is claimed of a sender beyond the contracts. The first three are predicates over the calls of any sender, in the paper's numbers; ours has them, and whatever sender has them answers
--- and leaves what ours does. Assumes nothing.
+-- What is claimed of a sender beyond the contracts. `Asks`, `Responds` and `Ends` are predicates over the calls of any sender, in the paper's numbers; ours has them, and whatever sender
+-- has them says and leaves what ours does, a QS TTL being a byte. Assumes nothing.
 use Prim.Native.Nat.{ℕ, _+_, _*_, _/_, _%_, _^_, _≤_, _<_, min, max}
 use mathlib.Core.List.{List}
 use mathlib.Core.Logic.{_⊎_}
 use mathlib.Core.Path.{_≡_}
 use lib.ListN.{length, getD}
 use Rattle.common.specs.Lists.{Bytes}
-use Rattle.refusals.specs.Reply.{Reply, answer, refuse, Outcome}
+use Rattle.refusals.specs.Reply.{Reply, answer, refuse, Outcome, refusing, answering}
 use Rattle.options.specs.declared.response.Response.{Response}
 use Rattle.options.specs.Wire.{reservedIn}
 use Rattle.options.specs.Requests.{requestRead}
@@ -18,15 +18,7 @@ use Rattle.connection.specs.declared.Moment.the-variants.{At}
 use Rattle.connection.specs.declared.Connection.{Connection}
 use Rattle.connection.specs.Records.{freshWith, withState, withWindow, withLastRequest}
 use Rattle.connection.specs.Claims.{InRange}
-use Rattle.sender.specs.Calls.{Wish, Transport, Sending, sending, Sender, senderCalls}
-
--- a call that says a refusal and leaves this
-abbrev pub refusing : {A B : Type 0} → ℕ → B → Outcome A B
-refusing n left = record { said = refuse n; left = left }
-
--- a call that is done and leaves this
-abbrev pub leaving : {B : Type 0} → B → Outcome (Unit {0}) B
-leaving left = record { said = answer tt; left = left }
+use Rattle.sender.specs.Calls.{Wish, wish, Transport, Sending, sending, Sender, senderCalls}
 
 -- ---- asking
 
@@ -115,9 +107,9 @@ pub record Responds (s : Sender) : Type 0 where
   -- "If that is above the window, it becomes the window and the state is quick; else the state is idle."
   pub quickens : (c : Connection) (response : List ℕ) (t : Transport) (q : OpenRequest) (r : Response) → ResponseGiven c response t → c .state ≡ Asked q → responseRead response ≡ answer r
       → Fits q r → c .window < quickWindow (r .rate) t
-      → s .respond c response t ≡ record { said = answer (r .rate); left = withWindow (withState c (Quick (record { window = c .window }))) (quickWindow (r .rate) t) }
+      → s .respond c response t ≡ answering (r .rate) (withWindow (withState c (Quick (record { window = c .window }))) (quickWindow (r .rate) t))
   pub stays : (c : Connection) (response : List ℕ) (t : Transport) (q : OpenRequest) (r : Response) → ResponseGiven c response t → c .state ≡ Asked q → responseRead response ≡ answer r
-      → Fits q r → quickWindow (r .rate) t ≤ c .window → s .respond c response t ≡ record { said = answer (r .rate); left = withState c Idle }
+      → Fits q r → quickWindow (r .rate) t ≤ c .window → s .respond c response t ≡ answering (r .rate) (withState c Idle)
 
 -- ---- first acknowledgement, loss, giving up
 
@@ -128,17 +120,17 @@ pub record Ends (s : Sender) : Type 0 where
   pub ack-asked : (c : Connection) (flight : ℕ) (q : OpenRequest) → InRange c → flight ≤ 1099511627776 → c .state ≡ Asked q → s .acknowledged c flight ≡ refusing 11 c
   -- "the window becomes the lesser of itself and max(flight, window before); idle"
   pub ack-quick : (c : Connection) (flight : ℕ) (b : Before) → InRange c → flight ≤ 1099511627776 → c .state ≡ Quick b
-      → s .acknowledged c flight ≡ leaving (withWindow (withState c Idle) (min (c .window) (max flight (b .window))))
+      → s .acknowledged c flight ≡ answering tt (withWindow (withState c Idle) (min (c .window) (max flight (b .window))))
   pub loss-seven : (c : Connection) → (InRange c → ⊥) → s .lost c ≡ refusing 7 c
   pub loss-idle : (c : Connection) → InRange c → c .state ≡ Idle → s .lost c ≡ refusing 11 c
   pub loss-asked : (c : Connection) (q : OpenRequest) → InRange c → c .state ≡ Asked q → s .lost c ≡ refusing 11 c
   -- "the lesser of itself and window before; idle"
-  pub loss-quick : (c : Connection) (b : Before) → InRange c → c .state ≡ Quick b → s .lost c ≡ leaving (withWindow (withState c Idle) (min (c .window) (b .window)))
+  pub loss-quick : (c : Connection) (b : Before) → InRange c → c .state ≡ Quick b → s .lost c ≡ answering tt (withWindow (withState c Idle) (min (c .window) (b .window)))
   pub give-up-seven : (c : Connection) → (InRange c → ⊥) → s .gaveUp c ≡ refusing 7 c
   pub give-up-idle : (c : Connection) → InRange c → c .state ≡ Idle → s .gaveUp c ≡ refusing 11 c
   pub give-up-quick : (c : Connection) (b : Before) → InRange c → c .state ≡ Quick b → s .gaveUp c ≡ refusing 11 c
   -- "Giving up while asked: idle."
-  pub give-up-asked : (c : Connection) (q : OpenRequest) → InRange c → c .state ≡ Asked q → s .gaveUp c ≡ leaving (withState c Idle)
+  pub give-up-asked : (c : Connection) (q : OpenRequest) → InRange c → c .state ≡ Asked q → s .gaveUp c ≡ answering tt (withState c Idle)
 
 -- ---- ours has them, and they leave nothing open
 
@@ -157,12 +149,17 @@ pub record SenderOnly : Type 0 where
 
 -- ---- what follows for ours
 
+-- an asking that was accepted was in range, from an idle record whose last request, if there was one, is a round trip or more ago; and it wrote the request that its record describes
+abbrev pub SentOnly : Type 0
+SentOnly = (c : Connection) (w : Wish) (buffer : List ℕ) → w .qs < 256 → senderCalls .ask c w buffer .said ≡ answer tt
+    → AskGiven c w buffer × (c .state ≡ Idle) × ((last : ℕ) → c .«last_request» ≡ At last → last + w .rtt ≤ w .time) × Sent c w (senderCalls .ask c w buffer .left)
+
 -- "accepted exactly when": what was accepted had fit
 abbrev pub AcceptedOnly : Type 0
 AcceptedOnly = (c : Connection) (response : List ℕ) (t : Transport) (rate : ℕ) → senderCalls .respond c response t .said ≡ answer rate
-    → (q : OpenRequest) × (r : Response) × (c .state ≡ Asked q) × (responseRead response ≡ answer r) × (rate ≡ r .rate) × Fits q r
+    → ResponseGiven c response t × (q : OpenRequest) × (r : Response) × (c .state ≡ Asked q) × (responseRead response ≡ answer r) × (rate ≡ r .rate) × Fits q r
 
--- "From a fresh record every asking with numbers in range is accepted"
+-- "A fresh record is idle with no last request, so 9 and 10 aren't given.": every asking with numbers in range is accepted
 abbrev pub FreshAsks : Type 0
 FreshAsks = (window ssthresh : ℕ) (w : Wish) (buffer : List ℕ) → AskGiven (freshWith window ssthresh) w buffer → senderCalls .ask (freshWith window ssthresh) w buffer .said ≡ answer tt
 
@@ -193,23 +190,27 @@ pub record Windows : Type 0 where
 
 -- ---- senders of which it is false
 
--- ours with another response
+-- ours with another asking, and with another response
+abbrev pub askingBy : (Connection → Wish → List ℕ → Outcome (Unit {0}) Sending) → Sender
+askingBy ask = record { ask = ask; respond = senderCalls .respond; acknowledged = senderCalls .acknowledged; lost = senderCalls .lost; gaveUp = senderCalls .gaveUp }
+
 abbrev pub respondingBy : (Connection → List ℕ → Transport → Outcome ℕ Connection) → Sender
 respondingBy respond = record { ask = senderCalls .ask; respond = respond; acknowledged = senderCalls .acknowledged; lost = senderCalls .lost; gaveUp = senderCalls .gaveUp }
 
--- the same, with another rate said
-abbrev pub saying : Reply ℕ → Outcome ℕ Connection → Outcome ℕ Connection
-saying said outcome = record { said = said; left = outcome .left }
-
+-- what was accepted, with another rate
 abbrev pub accepting : Reply ℕ → ℕ → Reply ℕ
 accepting (answer rate) instead = answer instead
 accepting (refuse n) instead = refuse n
 
 pub record ShutOut : Type 0 where
   -- with its own response, it is ours
-  pub otherwise-ours : respondingBy (senderCalls .respond) ≡ senderCalls
-  -- "a sender that refuses everything": whatever it refuses with, and whatever it leaves
+  pub otherwise-ours : (respondingBy (senderCalls .respond) ≡ senderCalls) × (askingBy (senderCalls .ask) ≡ senderCalls)
+  -- "a sender that refuses everything": every response, or every asking, whatever it refuses with, and whatever it leaves
   pub refuses-everything : (number : Connection → List ℕ → Transport → ℕ) (left : Connection → List ℕ → Transport → Connection)
       → Responds (respondingBy (λ c response t. record { said = refuse (number c response t); left = left c response t })) → ⊥
-  -- "a sender that always says code 1": whatever is accepted, the rate it says is 1
-  pub always-code-1 : Responds (respondingBy (λ c response t. saying (accepting (senderCalls .respond c response t .said) 1) (senderCalls .respond c response t))) → ⊥
+  pub refuses-every-asking : (number : Connection → Wish → List ℕ → ℕ) (left : Connection → Wish → List ℕ → Sending)
+      → Asks (askingBy (λ c w buffer. record { said = refuse (number c w buffer); left = left c w buffer })) → ⊥
+  -- "a sender that always says code 1": of what it accepts it says that the rate is 1, whatever it leaves; or it asks for code 1
+  pub always-code-1 : (left : Connection → List ℕ → Transport → Connection)
+      → Responds (respondingBy (λ c response t. record { said = accepting (senderCalls .respond c response t .said) 1; left = left c response t })) → ⊥
+  pub always-asks-1 : Asks (askingBy (λ c w buffer. senderCalls .ask c (wish 1 (w .ttl) (w .qs) (w .nonce) (w .rtt) (w .time)) buffer)) → ⊥

@@ -1,6 +1,7 @@
 -- `congestion::add` meets its contract: the four samples behind the new one are the front of those that were held. Assumes nothing.
 use native.Mathlib.Omega.{arith}
-use Rattle.congestion.proofs.SampleLaws.{length-mapped, added}
+use Rattle.common.proofs.Lists.{length-mapped}
+use Rattle.congestion.proofs.SampleLaws.{added}
 use Prim.Native.Nat.{_+_}
 use borrow.Author.Needs.{needs}
 use Rattle.congestion.proofs.add.Statement.{statement}

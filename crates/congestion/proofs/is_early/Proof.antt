@@ -1,6 +1,7 @@
 -- `congestion::is_early` meets its contract: with no period's start after it, the time is compared with the newest sample's. Assumes nothing.
 use mathlib.Core.Path.{sym, _∙_}
-use Rattle.congestion.proofs.SampleLaws.{length-mapped, early-period, not-early, early-by}
+use Rattle.common.proofs.Lists.{length-mapped}
+use Rattle.congestion.proofs.SampleLaws.{early-period, not-early, early-by}
 use borrow.Author.Needs.{needs}
 use Rattle.congestion.proofs.is_early.Statement.{statement}
 use Rattle.congestion.proofs.is_early.Tie as tie
