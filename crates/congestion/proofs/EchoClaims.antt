@@ -57,18 +57,22 @@ module _ (c : Connection) (ack highest mss : ℕ) where
   unfolding halved
   reacts g e = by-ahead g true e
 
--- the distance modulo 2^32
-distance : (ack mark by : ℕ) → mark < 4294967296 → by < 4294967296 → (mark + by) % 4294967296 ≡ ack → (ack + 2 ^ 32 - mark) % 2 ^ 32 ≡ by
-distance ack mark by m b e = omega arith
+-- at the mark, ahead of it, and behind it
+at-mark : (mark : ℕ) → mark < 4294967296 → isAhead mark (At mark) ≡ false
+unfolding isAhead
+at-mark mark m = not-within 1 _ (2 ^ 31 - 1) (λ p. absurd (omega (arith, p .0)))
 
 ahead-true : (ack mark by : ℕ) → mark < 4294967296 → 1 ≤ by → by ≤ 2147483647 → (mark + by) % 4294967296 ≡ ack → isAhead ack (At mark) ≡ true
 unfolding isAhead
-ahead-true ack mark by m l h e = rw (distance ack mark by m (omega arith) e) (in-within 1 by (2 ^ 31 - 1) l h)
+ahead-true ack mark by m l h e = in-within 1 _ (2 ^ 31 - 1) (omega arith) (omega arith)
+
+behind-false : (ack mark by : ℕ) → mark < 4294967296 → 2147483648 ≤ by → by < 4294967296 → (mark + by) % 4294967296 ≡ ack → isAhead ack (At mark) ≡ false
+unfolding isAhead
+behind-false ack mark by m l h e = not-within 1 _ (2 ^ 31 - 1) (λ p. absurd (omega (arith, p .1)))
 
 ahead-false : (ack mark by : ℕ) → mark < 4294967296 → (by ≡ 0) ⊎ ((2147483648 ≤ by) × (by < 4294967296)) → (mark + by) % 4294967296 ≡ ack → isAhead ack (At mark) ≡ false
-unfolding isAhead
-ahead-false ack mark by m (inl z) e = rw (distance ack mark by m (omega arith) e) (not-within 1 by (2 ^ 31 - 1) (λ p. absurd (omega (arith, p .0))))
-ahead-false ack mark by m (inr p) e = rw (distance ack mark by m (p .1) e) (not-within 1 by (2 ^ 31 - 1) (λ q. absurd (omega (arith, p .0, q .1))))
+ahead-false ack mark by m (inl z) e = let same : ack ≡ mark = omega arith in ap (λ (n : ℕ). isAhead n (At mark)) same ∙ at-mark mark m
+ahead-false ack mark by m (inr p) e = behind-false ack mark by m (p .0) (p .1) e
 
 no-mark-ahead : (ack : ℕ) → isAhead ack Absent ≡ true
 unfolding isAhead

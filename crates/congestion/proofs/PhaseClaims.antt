@@ -77,13 +77,13 @@ too-little : (window bytes : ℕ) → 2 * bytes < window → validated window (s
 unfolding validated
 too-little window bytes h = lt-leb window (2 * bytes) h
 
-over-at : (time start : ℕ) (m : Moment) → m ≡ At start → start + 300000000 < time → isOver time m ≡ true
-unfolding isOver
-over-at time start m e h = rw e (lt-ltb (start + 300000000) time h)
-
 not-over-at : (time start : ℕ) (m : Moment) → m ≡ At start → time ≤ start + 300000000 → isOver time m ≡ false
 unfolding isOver
 not-over-at time start m e h = rw e (le-ltb (start + 300000000) time h)
+
+over-at : (time start : ℕ) (m : Moment) → m ≡ At start → start + 300000000 < time → isOver time m ≡ true
+unfolding isOver
+over-at time start m e h = rw e (lt-ltb (start + 300000000) time h)
 
 not-over-absent : (time : ℕ) (m : Moment) → m ≡ Absent → isOver time m ≡ false
 unfolding isOver

@@ -6,8 +6,8 @@ use Rattle.refusals.specs.Numbers.{numberOf}
 use Rattle.refusals.specs.Reply.{Reply, answer, refuse}
 use Rattle.congestion.specs.declared.EchoAnswer.{EchoAnswer}
 use Rattle.congestion.specs.declared.EchoAnswer.the-variants as Echoes
-use Rattle.congestion.specs.declared.Added.{Added}
-use Rattle.congestion.specs.declared.Added.the-variants as Addings
+use Rattle.congestion.specs.declared.SampleAnswer.{SampleAnswer}
+use Rattle.congestion.specs.declared.SampleAnswer.the-variants as SampleAnswers
 use Rattle.congestion.specs.declared.PhaseAnswer.{PhaseAnswer}
 use Rattle.congestion.specs.declared.PhaseAnswer.the-variants as Phases
 use Rattle.congestion.specs.declared.PipeAck.{PipeAck}
@@ -19,9 +19,9 @@ echoTold Echoes.Reacted = answer true
 echoTold Echoes.Ignored = answer false
 echoTold (Echoes.Refused why) = refuse (numberOf why)
 
-abbrev pub addedTold : Added → Reply (Unit {0})
-addedTold Addings.Done = answer tt
-addedTold (Addings.Refused why) = refuse (numberOf why)
+abbrev pub addedTold : SampleAnswer → Reply (Unit {0})
+addedTold SampleAnswers.Done = answer tt
+addedTold (SampleAnswers.Refused why) = refuse (numberOf why)
 
 -- whether the phase is validated
 abbrev pub phaseTold : PhaseAnswer → Reply Bool

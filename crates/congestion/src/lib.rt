@@ -56,14 +56,14 @@ pub struct Echoed {
     pub connection: Connection,
 }
 
-pub enum Added {
+pub enum SampleAnswer {
     Done,
     Refused(Refusal),
 }
 
 // What adding a sample answers, and the record afterwards.
 pub struct Sampled {
-    pub answer: Added,
+    pub answer: SampleAnswer,
     pub connection: Connection,
 }
 
@@ -189,24 +189,24 @@ pub fn sample(connection: Connection, time: u64, bytes: u64) -> Sampled
 {
     if !is_in_range(connection) {
         return Sampled {
-            answer: Added::Refused(Refusal::OutOfRange),
+            answer: SampleAnswer::Refused(Refusal::OutOfRange),
             connection,
         };
     }
     if bytes > MOST_BYTES {
         return Sampled {
-            answer: Added::Refused(Refusal::OutOfRange),
+            answer: SampleAnswer::Refused(Refusal::OutOfRange),
             connection,
         };
     }
     if is_early(connection, time) {
         return Sampled {
-            answer: Added::Refused(Refusal::TimeBackwards),
+            answer: SampleAnswer::Refused(Refusal::TimeBackwards),
             connection,
         };
     }
     Sampled {
-        answer: Added::Done,
+        answer: SampleAnswer::Done,
         connection: add(connection, Sample { time, bytes }),
     }
 }

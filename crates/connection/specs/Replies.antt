@@ -1,9 +1,9 @@
 -- What making a record answers. Assumes nothing.
 use Rattle.refusals.specs.Numbers.{numberOf}
 use Rattle.refusals.specs.Reply.{Reply, answer, refuse}
-use Rattle.connection.specs.declared.Opening.{Opening}
-use Rattle.connection.specs.declared.Opening.the-variants as Openings
+use Rattle.connection.specs.declared.FreshAnswer.{FreshAnswer}
+use Rattle.connection.specs.declared.FreshAnswer.the-variants as FreshAnswers
 
-abbrev pub openingTold : Opening → Reply (Unit {0})
-openingTold Openings.Ready = answer tt
-openingTold (Openings.Refused why) = refuse (numberOf why)
+abbrev pub freshTold : FreshAnswer → Reply (Unit {0})
+freshTold FreshAnswers.Ready = answer tt
+freshTold (FreshAnswers.Refused why) = refuse (numberOf why)

@@ -5,7 +5,7 @@ ghost use mathlib.Core.Path.{_≡_};
 ghost use Prim.Native.Nat.{_≤_, min, max};
 ghost use lib.ListN.{take};
 ghost use Rattle.connection.specs.Records.{mostSamples, isBefore, stateInRange, bytesInRange, inRange, freshWith, freshReply, withState, withLastRequest, withMark, withPeriod};
-ghost use Rattle.connection.specs.Replies.{openingTold};
+ghost use Rattle.connection.specs.Replies.{freshTold};
 use options::NONCE_LIMIT;
 use rates::TOP_CODE;
 use refusals::Refusal;
@@ -66,14 +66,14 @@ pub struct Connection {
     pub period: Moment,
 }
 
-pub enum Opening {
+pub enum FreshAnswer {
     Ready,
     Refused(Refusal),
 }
 
 // What making a record answers, and the record: after a refusal one that every call refuses.
 pub struct Opened {
-    pub answer: Opening,
+    pub answer: FreshAnswer,
     pub connection: Connection,
 }
 
@@ -163,7 +163,7 @@ pub fn is_in_range(connection: Connection) -> bool
 
 // A fresh record: idle, with no last request, mark, sample or period.
 pub fn fresh(window: u64, ssthresh: u64) -> Opened
-    ensures answer { λ r. ⌜ openingTold (r .answer) ≡ freshReply window ssthresh ⌝ }
+    ensures answer { λ r. ⌜ freshTold (r .answer) ≡ freshReply window ssthresh ⌝ }
     ensures record { λ r. ⌜ r .connection ≡ freshWith window ssthresh ⌝ }
 {
     let connection = Connection {
@@ -178,12 +178,12 @@ pub fn fresh(window: u64, ssthresh: u64) -> Opened
     };
     if !is_in_range(connection) {
         return Opened {
-            answer: Opening::Refused(Refusal::OutOfRange),
+            answer: FreshAnswer::Refused(Refusal::OutOfRange),
             connection,
         };
     }
     Opened {
-        answer: Opening::Ready,
+        answer: FreshAnswer::Ready,
         connection,
     }
 }

@@ -32,20 +32,20 @@ use Rattle.connection.specs.Claims.{StateInRange, InRange}
 use Rattle.connection.proofs.Claims.{ranges}
 use Rattle.connection.proofs.PartLaws.{state-part, window-part, request-part}
 use Rattle.sender.specs.Calls.{Wish, wish, Transport, transport, Sending, sending, asked, askInRange, isBusy, isSoon, askReply, whileAsked, whileQuick, judged, taken, responseReply, granted, afterResponse, acknowledgedReply, lossReply, giveUpReply, senderCalls}
-use Rattle.sender.specs.Claims.{Ours, SenderOnly, Sent, Asks, Responds, StaysInRange, Unchanged, Windows, askingBy, respondingBy, ShutOut}
+use Rattle.sender.specs.Claims.{Ours, SenderOnly, Sent, Asks, Takes, StaysInRange, Unchanged, Windows, askingBy, takingBy, ShutOut}
 use Rattle.sender.proofs.CallLaws.{ask-facts}
 use Rattle.sender.proofs.CallLaws as laws
 use Rattle.sender.proofs.AskClaims.{asks, ask-only}
-use Rattle.sender.proofs.ResponseClaims.{responds, respond-only, accepted-had, given}
+use Rattle.sender.proofs.ResponseClaims.{takes, respond-only, accepted-had, given}
 use Rattle.sender.proofs.EndClaims.{ends, ack-only, loss-only, give-up-only}
 
 pub ours : Ours
-ours = record { asks = asks; responds = responds; ends = ends }
+ours = record { asks = asks; takes = takes; ends = ends }
 
 pub senderOnly : SenderOnly
 senderOnly = record {
   ask = λ s a c w buffer byte. ask-only s a c w buffer byte;
-  respond = λ s a c response t. respond-only s a c response t;
+  takeResponse = λ s a c response t. respond-only s a c response t;
   acknowledged = λ s a c flight. ack-only s a c flight;
   lost = λ s a c. loss-only s a c;
   gaveUp = λ s a c. give-up-only s a c;
@@ -117,7 +117,7 @@ module _ (c : Connection) (i : InRange c) where
 pub staysInRange : StaysInRange
 staysInRange = record {
   ask = ask-stays;
-  respond = λ c response t i. by-said c response t i (responseReply c response t) refl;
+  takeResponse = λ c response t i. by-said c response t i (responseReply c response t) refl;
   acknowledged = λ c flight i.
       left-by InRange c (acknowledgedReply c flight) i
       (λ d e. quick-stays c i (λ b. max flight (b .window)) (λ b l. omega arith) (c .state) (i .state-in) d (sym (passed (inRange c && leb flight mostBytes) d _ 7 (sym e) .1)));
@@ -154,7 +154,7 @@ numbers c response t n e = go (inRange c && transportInRange (t .rtt) (t .mss) (
 
 module _ (c : Connection) (response : List ℕ) (t : Transport) where
   respond-left : (n : ℕ) → responseReply c response t ≡ refuse n → (b : Bool) → within 13 n 15 ≡ b
-      → ((n ≤ 12) × (senderCalls .respond c response t .left ≡ c)) ⊎ ((13 ≤ n) × (n ≤ 15) × (senderCalls .respond c response t .left ≡ withState c Idle))
+      → ((n ≤ 12) × (senderCalls .takeResponse c response t .left ≡ c)) ⊎ ((13 ≤ n) × (n ≤ 15) × (senderCalls .takeResponse c response t .left ≡ withState c Idle))
   respond-left n e true b = inr (within-low 13 n 15 b, within-high 13 n 15 b, ap (afterResponse c t) e ∙ chosen (within 13 n 15) _ _ b)
   respond-left n e false b = inl (below (within 13 n 15) refl, ap (afterResponse c t) e ∙ ap (λ (x : Bool). pick x (withState c Idle) c) b)
     where
@@ -168,7 +168,7 @@ module _ (c : Connection) (response : List ℕ) (t : Transport) where
 pub unchanged : Unchanged
 unchanged = record {
   ask = λ c w buffer n e. left-as-it-was (sending c buffer) (askReply c w buffer) n e;
-  respond = λ c response t n e. respond-left c response t n e (within 13 n 15) refl;
+  takeResponse = λ c response t n e. respond-left c response t n e (within 13 n 15) refl;
   acknowledged = λ c flight n e. left-as-it-was c (acknowledgedReply c flight) n e;
   lost = λ c n e. left-as-it-was c (lossReply c) n e;
   gaveUp = λ c n e. left-as-it-was c (giveUpReply c) n e;
@@ -193,7 +193,7 @@ module _ (c : Connection) where
 
 pub windows : Windows
 windows = record {
-  respond = λ c response t. said-window c t (responseReply c response t);
+  takeResponse = λ c response t. said-window c t (responseReply c response t);
   acknowledged = λ c flight.
       left-by (λ (d : Connection). d .window ≤ c .window) c (acknowledgedReply c flight) (le-refl (c .window))
       (λ d e. quick-window c (λ b. max flight (b .window)) (c .state) d (sym (passed (inRange c && leb flight mostBytes) d _ 7 (sym e) .1)));
@@ -225,7 +225,7 @@ granting = 27 ∷ 8 ∷ 2 ∷ 0 ∷ 0 ∷ 0 ∷ 0 ∷ 0 ∷ []
 abbrev buffer8 : List ℕ
 buffer8 = 0 ∷ 0 ∷ 0 ∷ 0 ∷ 0 ∷ 0 ∷ 0 ∷ 0 ∷ []
 
-module _ (respond : Connection → List ℕ → Transport → Outcome ℕ Connection) (a : Responds (respondingBy respond)) where
+module _ (respond : Connection → List ℕ → Transport → Outcome ℕ Connection) (a : Takes (takingBy respond)) where
   -- it is accepted at code 2
   accepts-2 : respond waiting granting (transport 1 1 20) .said ≡ answer 2
   unfolding inRange stateInRange bytesInRange within transportInRange isResponse wordOf

@@ -25,7 +25,7 @@ use Rattle.connection.specs.declared.Connection.{Connection}
 use Rattle.connection.specs.Records.{inRange, withState, withWindow}
 use Rattle.connection.proofs.Claims.{ranges}
 use Rattle.sender.specs.Calls.{Transport, whileAsked, judged, taken, responseReply, granted, afterResponse, Sender, senderCalls}
-use Rattle.sender.specs.Claims.{ResponseGiven, RateFits, Fits, quickWindow, Responds, AcceptedOnly}
+use Rattle.sender.specs.Claims.{ResponseGiven, RateFits, Fits, quickWindow, Takes, AcceptedOnly}
 use Rattle.sender.proofs.CallLaws.{rate-wrong, diff-wrong, judged-by, not-above, above, response-in}
 
 -- ---- ranges
@@ -71,40 +71,40 @@ module _ (c : Connection) (response : List ℕ) (t : Transport) where
 
   -- ---- what ours says, and leaves by that
 
-  by-reply : (x : Reply ℕ) → x ≡ responseReply c response t → senderCalls .respond c response t ≡ record { said = x; left = afterResponse c t x }
+  by-reply : (x : Reply ℕ) → x ≡ responseReply c response t → senderCalls .takeResponse c response t ≡ record { said = x; left = afterResponse c t x }
   by-reply x e = ap (λ (r : Reply ℕ). record { said = r; left = afterResponse c t r }) (sym e)
 
-  out : testOf c response t ≡ false → senderCalls .respond c response t ≡ refusing 7 c
+  out : testOf c response t ≡ false → senderCalls .takeResponse c response t ≡ refusing 7 c
   unfolding within
   out e = by-reply (refuse 7) (simp e)
 
-  respond-seven : (ResponseGiven c response t → ⊥) → senderCalls .respond c response t ≡ refusing 7 c
+  respond-seven : (ResponseGiven c response t → ⊥) → senderCalls .takeResponse c response t ≡ refusing 7 c
   respond-seven n = ⊎-elim (λ (g : ResponseGiven c response t). absurd (n g)) out either-given
 
   module _ (g : ResponseGiven c response t) where
     by-state : (s : State) → c .state ≡ s → whileAsked s (λ request. taken request response) ≡ responseReply c response t
     by-state s f = response-in c (ranges .suffices c (g .record-in)) s f response t (ok g) (g .room-is)
 
-    respond-idle : c .state ≡ Idle → senderCalls .respond c response t ≡ refusing 11 c
+    respond-idle : c .state ≡ Idle → senderCalls .takeResponse c response t ≡ refusing 11 c
     unfolding within
     respond-idle f = by-reply (refuse 11) (by-state Idle f)
 
-    respond-quick : (b : Before) → c .state ≡ Quick b → senderCalls .respond c response t ≡ refusing 11 c
+    respond-quick : (b : Before) → c .state ≡ Quick b → senderCalls .takeResponse c response t ≡ refusing 11 c
     unfolding within
     respond-quick b f = by-reply (refuse 11) (by-state (Quick b) f)
 
     module _ (q : OpenRequest) (f : c .state ≡ Asked q) where
-      no-response : isResponse response ≡ false → senderCalls .respond c response t ≡ refusing 12 c
+      no-response : isResponse response ≡ false → senderCalls .takeResponse c response t ≡ refusing 12 c
       unfolding within
       no-response e =
           let read : refuse 12 ≡ responseRead response = simp (eq-eqb (length response) optionLength (g .room-is), e) in
           by-reply (refuse 12) (ap (λ (x : Reply Response). andThen x (judged q)) read ∙ by-state (Asked q) f)
 
       module _ (r : Response) (read : responseRead response ≡ answer r) where
-        by-judged : (x : Reply ℕ) → x ≡ judged q r → senderCalls .respond c response t ≡ record { said = x; left = afterResponse c t x }
+        by-judged : (x : Reply ℕ) → x ≡ judged q r → senderCalls .takeResponse c response t ≡ record { said = x; left = afterResponse c t x }
         by-judged x e = by-reply x (e ∙ ap (λ (y : Reply Response). andThen y (judged q)) (sym read) ∙ by-state (Asked q) f)
 
-        respond-13 : (RateFits q r → ⊥) → senderCalls .respond c response t ≡ refusing 13 (withState c Idle)
+        respond-13 : (RateFits q r → ⊥) → senderCalls .takeResponse c response t ≡ refusing 13 (withState c Idle)
         unfolding within
         respond-13 n = by-judged (refuse 13) (rate-wrong q r (not-within 1 (r .rate) (q .code) (λ p. n (record { low = p .0; high = p .1 }))))
 
@@ -112,25 +112,25 @@ module _ (c : Connection) (response : List ℕ) (t : Transport) where
           inside : within 1 (r .rate) (q .code) ≡ true
           inside = in-within 1 (r .rate) (q .code) (fits .low) (fits .high)
 
-          respond-14 : (r .«ttl_diff» ≡ q .«ttl_diff» → ⊥) → senderCalls .respond c response t ≡ refusing 14 (withState c Idle)
+          respond-14 : (r .«ttl_diff» ≡ q .«ttl_diff» → ⊥) → senderCalls .takeResponse c response t ≡ refusing 14 (withState c Idle)
           unfolding within
           respond-14 n = by-judged (refuse 14) (diff-wrong q r inside n)
 
-          respond-15 : r .«ttl_diff» ≡ q .«ttl_diff» → (q .nonce % 4 ^ r .rate ≡ r .nonce % 4 ^ r .rate → ⊥) → senderCalls .respond c response t ≡ refusing 15 (withState c Idle)
+          respond-15 : r .«ttl_diff» ≡ q .«ttl_diff» → (q .nonce % 4 ^ r .rate ≡ r .nonce % 4 ^ r .rate → ⊥) → senderCalls .takeResponse c response t ≡ refusing 15 (withState c Idle)
           unfolding within agree fieldsUpTo
           respond-15 d n = by-judged (refuse 15) (judged-by q r inside d false (ne-eqb (q .nonce % 4 ^ r .rate) (r .nonce % 4 ^ r .rate) n))
 
-        accepted : Fits q r → senderCalls .respond c response t ≡ record { said = answer (r .rate); left = granted c (windowBytes (r .rate) (t .rtt) (t .mss) (t .headers)) }
+        accepted : Fits q r → senderCalls .takeResponse c response t ≡ record { said = answer (r .rate); left = granted c (windowBytes (r .rate) (t .rtt) (t .mss) (t .headers)) }
         unfolding agree fieldsUpTo
         accepted a =
             by-judged (answer (r .rate)) (judged-by q r (inside (a .rate)) (a .diff) true (eq-eqb (q .nonce % 4 ^ r .rate) (r .nonce % 4 ^ r .rate) (a .nonces)))
 
         respond-quickens : Fits q r → c .window < quickWindow (r .rate) t
-            → senderCalls .respond c response t ≡ record { said = answer (r .rate); left = withWindow (withState c (Quick (record { window = c .window }))) (quickWindow (r .rate) t) }
+            → senderCalls .takeResponse c response t ≡ record { said = answer (r .rate); left = withWindow (withState c (Quick (record { window = c .window }))) (quickWindow (r .rate) t) }
         unfolding windowBytes windowSegments
         respond-quickens a h = accepted a ∙ ap (λ (l : Connection). record { said = answer (r .rate); left = l }) (sym (above c (quickWindow (r .rate) t) h))
 
-        respond-stays : Fits q r → quickWindow (r .rate) t ≤ c .window → senderCalls .respond c response t ≡ record { said = answer (r .rate); left = withState c Idle }
+        respond-stays : Fits q r → quickWindow (r .rate) t ≤ c .window → senderCalls .takeResponse c response t ≡ record { said = answer (r .rate); left = withState c Idle }
         unfolding windowBytes windowSegments
         respond-stays a h = accepted a ∙ ap (λ (l : Connection). record { said = answer (r .rate); left = l }) (sym (not-above c (quickWindow (r .rate) t) h))
 
@@ -148,8 +148,8 @@ kind-known : (response : List ℕ) → (getD response 0 0 ≡ 27) × (getD respo
 unfolding isResponse
 kind-known response p e = let t : isResponse response ≡ true = simp (eq-eqb (kindIn response) responseKind (p .0), eq-eqb (lengthIn response) optionLength (p .1)) in cc
 
-pub responds : Responds senderCalls
-responds = record {
+pub takes : Takes senderCalls
+takes = record {
   seven = respond-seven;
   eleven-idle = λ c response t g f. respond-idle c response t g f;
   eleven-quick = λ c response t b g f. respond-quick c response t g b f;
@@ -178,47 +178,47 @@ either-fits q r = go (within 1 (r .rate) (q .code)) refl
     go true e = inl (record { low = within-low 1 (r .rate) (q .code) e; high = within-high 1 (r .rate) (q .code) e })
     go false e = inr (λ f. let t : within 1 (r .rate) (q .code) ≡ true = in-within 1 (r .rate) (q .code) (f .low) (f .high) in clash (cc))
 
-module _ (s : Sender) (a : Responds s) (c : Connection) (response : List ℕ) (t : Transport) where
+module _ (s : Sender) (a : Takes s) (c : Connection) (response : List ℕ) (t : Transport) where
   abbrev Same : Type 0
-  Same = s .respond c response t ≡ senderCalls .respond c response t
+  Same = s .takeResponse c response t ≡ senderCalls .takeResponse c response t
 
   module _ (g : ResponseGiven c response t) (q : OpenRequest) (f : c .state ≡ Asked q) where
     module _ (r : Response) (read : responseRead response ≡ answer r) where
       by-window : Fits q r → Same
       by-window p =
           ⊎-elim
-          (λ (l : quickWindow (r .rate) t ≤ c .window). a .stays c response t q r g f read p l ∙ sym (responds .stays c response t q r g f read p l))
-          (λ (h : c .window < quickWindow (r .rate) t). a .quickens c response t q r g f read p h ∙ sym (responds .quickens c response t q r g f read p h))
+          (λ (l : quickWindow (r .rate) t ≤ c .window). a .stays c response t q r g f read p l ∙ sym (takes .stays c response t q r g f read p l))
+          (λ (h : c .window < quickWindow (r .rate) t). a .quickens c response t q r g f read p h ∙ sym (takes .quickens c response t q r g f read p h))
           (le-or-gt (quickWindow (r .rate) t) (c .window))
 
       by-nonce : RateFits q r → r .«ttl_diff» ≡ q .«ttl_diff» → Same
       by-nonce p d =
           ⊎-elim
           (λ (e : q .nonce % 4 ^ r .rate ≡ r .nonce % 4 ^ r .rate). by-window (record { rate = p; diff = d; nonces = e }))
-          (λ (n : q .nonce % 4 ^ r .rate ≡ r .nonce % 4 ^ r .rate → ⊥). a .fifteen c response t q r g f read p d n ∙ sym (responds .fifteen c response t q r g f read p d n))
+          (λ (n : q .nonce % 4 ^ r .rate ≡ r .nonce % 4 ^ r .rate → ⊥). a .fifteen c response t q r g f read p d n ∙ sym (takes .fifteen c response t q r g f read p d n))
           (either-equal (q .nonce % 4 ^ r .rate) (r .nonce % 4 ^ r .rate))
 
       by-diff : RateFits q r → Same
       by-diff p =
           ⊎-elim
           (λ (d : r .«ttl_diff» ≡ q .«ttl_diff»). by-nonce p d)
-          (λ (n : r .«ttl_diff» ≡ q .«ttl_diff» → ⊥). a .fourteen c response t q r g f read p n ∙ sym (responds .fourteen c response t q r g f read p n))
+          (λ (n : r .«ttl_diff» ≡ q .«ttl_diff» → ⊥). a .fourteen c response t q r g f read p n ∙ sym (takes .fourteen c response t q r g f read p n))
           (either-equal (r .«ttl_diff») (q .«ttl_diff»))
 
       by-rate : Same
       by-rate =
           ⊎-elim
           by-diff
-          (λ (n : RateFits q r → ⊥). a .thirteen c response t q r g f read n ∙ sym (responds .thirteen c response t q r g f read n))
+          (λ (n : RateFits q r → ⊥). a .thirteen c response t q r g f read n ∙ sym (takes .thirteen c response t q r g f read n))
           (either-fits q r)
 
     by-kind : (b : Bool) → isResponse response ≡ b → Same
     by-kind true e = by-rate _ (chosen (eqb (length response) optionLength) _ _ (eq-eqb (length response) optionLength (g .room-is)) ∙ chosen (isResponse response) _ _ e)
-    by-kind false e = a .twelve c response t q g f (λ p. clash (kind-known response p e)) ∙ sym (responds .twelve c response t q g f (λ p. clash (kind-known response p e)))
+    by-kind false e = a .twelve c response t q g f (λ p. clash (kind-known response p e)) ∙ sym (takes .twelve c response t q g f (λ p. clash (kind-known response p e)))
 
   by-states : ResponseGiven c response t → (st : State) → c .state ≡ st → Same
-  by-states g Idle f = a .eleven-idle c response t g f ∙ sym (responds .eleven-idle c response t g f)
-  by-states g (Quick b) f = a .eleven-quick c response t b g f ∙ sym (responds .eleven-quick c response t b g f)
+  by-states g Idle f = a .eleven-idle c response t g f ∙ sym (takes .eleven-idle c response t g f)
+  by-states g (Quick b) f = a .eleven-quick c response t b g f ∙ sym (takes .eleven-quick c response t b g f)
   by-states g (Asked q) f = by-kind g q f (isResponse response) refl
 
   pub respond-only : Same
@@ -259,7 +259,7 @@ module _ (c : Connection) (response : List ℕ) (t : Transport) (rate : ℕ) whe
       let k = fitted q (h .0) (h .2) in
       (g, q, h .0, f, h .1, k .0, k .1)
 
-  pub accepted-had : senderCalls .respond c response t .said ≡ answer rate → Had
+  pub accepted-had : senderCalls .takeResponse c response t .said ≡ answer rate → Had
   accepted-had e =
       let p = passed (testOf c response t) rate _ 7 (sym e) in
       while-had (given c response t (p .0)) (c .state) refl (sym (p .1))

@@ -149,7 +149,7 @@ giveUpReply c = pick (inRange c) (whileAsked (c .state) (λ request. answer (wit
 
 pub record Sender : Type 0 where
   pub ask : Connection → Wish → List ℕ → Outcome (Unit {0}) Sending
-  pub respond : Connection → List ℕ → Transport → Outcome ℕ Connection
+  pub takeResponse : Connection → List ℕ → Transport → Outcome ℕ Connection
   pub acknowledged : Connection → ℕ → Outcome (Unit {0}) Connection
   pub lost : Connection → Outcome (Unit {0}) Connection
   pub gaveUp : Connection → Outcome (Unit {0}) Connection
@@ -158,7 +158,7 @@ pub record Sender : Type 0 where
 abbrev pub senderCalls : Sender
 senderCalls = record {
   ask = λ c w buffer. outcomeOf (sending c buffer) (askReply c w buffer);
-  respond = λ c response t. record { said = responseReply c response t; left = afterResponse c t (responseReply c response t) };
+  takeResponse = λ c response t. record { said = responseReply c response t; left = afterResponse c t (responseReply c response t) };
   acknowledged = λ c flight. outcomeOf c (acknowledgedReply c flight);
   lost = λ c. outcomeOf c (lossReply c);
   gaveUp = λ c. outcomeOf c (giveUpReply c);

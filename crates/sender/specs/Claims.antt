@@ -1,4 +1,4 @@
--- What is claimed of a sender beyond the contracts. `Asks`, `Responds` and `Ends` are predicates over the calls of any sender, in the paper's numbers; ours has them, and whatever sender
+-- What is claimed of a sender beyond the contracts. `Asks`, `Takes` and `Ends` are predicates over the calls of any sender, in the paper's numbers; ours has them, and whatever sender
 -- has them says and leaves what ours does, a QS TTL being a byte. Assumes nothing.
 use Prim.Native.Nat.{ℕ, _+_, _*_, _/_, _%_, _^_, _≤_, _<_, min, max}
 use mathlib.Core.List.{List}
@@ -90,26 +90,26 @@ abbrev pub quickWindow : ℕ → Transport → ℕ
 quickWindow rate t = (5000 * 2 ^ rate * t .rtt) / (1000000 * (t .mss + t .headers)) * t .mss
 
 -- "Response: order 7, 11, 12, 13, 14, 15."
-pub record Responds (s : Sender) : Type 0 where
-  pub seven : (c : Connection) (response : List ℕ) (t : Transport) → (ResponseGiven c response t → ⊥) → s .respond c response t ≡ refusing 7 c
-  pub eleven-idle : (c : Connection) (response : List ℕ) (t : Transport) → ResponseGiven c response t → c .state ≡ Idle → s .respond c response t ≡ refusing 11 c
-  pub eleven-quick : (c : Connection) (response : List ℕ) (t : Transport) (b : Before) → ResponseGiven c response t → c .state ≡ Quick b → s .respond c response t ≡ refusing 11 c
+pub record Takes (s : Sender) : Type 0 where
+  pub seven : (c : Connection) (response : List ℕ) (t : Transport) → (ResponseGiven c response t → ⊥) → s .takeResponse c response t ≡ refusing 7 c
+  pub eleven-idle : (c : Connection) (response : List ℕ) (t : Transport) → ResponseGiven c response t → c .state ≡ Idle → s .takeResponse c response t ≡ refusing 11 c
+  pub eleven-quick : (c : Connection) (response : List ℕ) (t : Transport) (b : Before) → ResponseGiven c response t → c .state ≡ Quick b → s .takeResponse c response t ≡ refusing 11 c
   -- "not of kind 27, length 8"
   pub twelve : (c : Connection) (response : List ℕ) (t : Transport) (q : OpenRequest) → ResponseGiven c response t → c .state ≡ Asked q
-      → ((getD response 0 0 ≡ 27) × (getD response 1 0 ≡ 8) → ⊥) → s .respond c response t ≡ refusing 12 c
+      → ((getD response 0 0 ≡ 27) × (getD response 1 0 ≡ 8) → ⊥) → s .takeResponse c response t ≡ refusing 12 c
   -- "After 13, 14 or 15 the state is idle, the rest unchanged."
   pub thirteen : (c : Connection) (response : List ℕ) (t : Transport) (q : OpenRequest) (r : Response) → ResponseGiven c response t → c .state ≡ Asked q → responseRead response ≡ answer r
-      → (RateFits q r → ⊥) → s .respond c response t ≡ refusing 13 (withState c Idle)
+      → (RateFits q r → ⊥) → s .takeResponse c response t ≡ refusing 13 (withState c Idle)
   pub fourteen : (c : Connection) (response : List ℕ) (t : Transport) (q : OpenRequest) (r : Response) → ResponseGiven c response t → c .state ≡ Asked q → responseRead response ≡ answer r
-      → RateFits q r → (r .«ttl_diff» ≡ q .«ttl_diff» → ⊥) → s .respond c response t ≡ refusing 14 (withState c Idle)
+      → RateFits q r → (r .«ttl_diff» ≡ q .«ttl_diff» → ⊥) → s .takeResponse c response t ≡ refusing 14 (withState c Idle)
   pub fifteen : (c : Connection) (response : List ℕ) (t : Transport) (q : OpenRequest) (r : Response) → ResponseGiven c response t → c .state ≡ Asked q → responseRead response ≡ answer r
-      → RateFits q r → r .«ttl_diff» ≡ q .«ttl_diff» → (q .nonce % 4 ^ r .rate ≡ r .nonce % 4 ^ r .rate → ⊥) → s .respond c response t ≡ refusing 15 (withState c Idle)
+      → RateFits q r → r .«ttl_diff» ≡ q .«ttl_diff» → (q .nonce % 4 ^ r .rate ≡ r .nonce % 4 ^ r .rate → ⊥) → s .takeResponse c response t ≡ refusing 15 (withState c Idle)
   -- "If that is above the window, it becomes the window and the state is quick; else the state is idle."
   pub quickens : (c : Connection) (response : List ℕ) (t : Transport) (q : OpenRequest) (r : Response) → ResponseGiven c response t → c .state ≡ Asked q → responseRead response ≡ answer r
       → Fits q r → c .window < quickWindow (r .rate) t
-      → s .respond c response t ≡ answering (r .rate) (withWindow (withState c (Quick (record { window = c .window }))) (quickWindow (r .rate) t))
+      → s .takeResponse c response t ≡ answering (r .rate) (withWindow (withState c (Quick (record { window = c .window }))) (quickWindow (r .rate) t))
   pub stays : (c : Connection) (response : List ℕ) (t : Transport) (q : OpenRequest) (r : Response) → ResponseGiven c response t → c .state ≡ Asked q → responseRead response ≡ answer r
-      → Fits q r → quickWindow (r .rate) t ≤ c .window → s .respond c response t ≡ answering (r .rate) (withState c Idle)
+      → Fits q r → quickWindow (r .rate) t ≤ c .window → s .takeResponse c response t ≡ answering (r .rate) (withState c Idle)
 
 -- ---- first acknowledgement, loss, giving up
 
@@ -136,13 +136,13 @@ pub record Ends (s : Sender) : Type 0 where
 
 pub record Ours : Type 0 where
   pub asks : Asks senderCalls
-  pub responds : Responds senderCalls
+  pub takes : Takes senderCalls
   pub ends : Ends senderCalls
 
 -- whatever sender has these says and leaves what ours does: for every record, all numbers and every buffer, a QS TTL being a byte
 pub record SenderOnly : Type 0 where
   pub ask : (s : Sender) → Asks s → (c : Connection) (w : Wish) (buffer : List ℕ) → w .qs < 256 → s .ask c w buffer ≡ senderCalls .ask c w buffer
-  pub respond : (s : Sender) → Responds s → (c : Connection) (response : List ℕ) (t : Transport) → s .respond c response t ≡ senderCalls .respond c response t
+  pub takeResponse : (s : Sender) → Takes s → (c : Connection) (response : List ℕ) (t : Transport) → s .takeResponse c response t ≡ senderCalls .takeResponse c response t
   pub acknowledged : (s : Sender) → Ends s → (c : Connection) (flight : ℕ) → s .acknowledged c flight ≡ senderCalls .acknowledged c flight
   pub lost : (s : Sender) → Ends s → (c : Connection) → s .lost c ≡ senderCalls .lost c
   pub gaveUp : (s : Sender) → Ends s → (c : Connection) → s .gaveUp c ≡ senderCalls .gaveUp c
@@ -156,7 +156,7 @@ SentOnly = (c : Connection) (w : Wish) (buffer : List ℕ) → w .qs < 256 → s
 
 -- "accepted exactly when": what was accepted had fit
 abbrev pub AcceptedOnly : Type 0
-AcceptedOnly = (c : Connection) (response : List ℕ) (t : Transport) (rate : ℕ) → senderCalls .respond c response t .said ≡ answer rate
+AcceptedOnly = (c : Connection) (response : List ℕ) (t : Transport) (rate : ℕ) → senderCalls .takeResponse c response t .said ≡ answer rate
     → ResponseGiven c response t × (q : OpenRequest) × (r : Response) × (c .state ≡ Asked q) × (responseRead response ≡ answer r) × (rate ≡ r .rate) × Fits q r
 
 -- "A fresh record is idle with no last request, so 9 and 10 aren't given.": every asking with numbers in range is accepted
@@ -166,7 +166,7 @@ FreshAsks = (window ssthresh : ℕ) (w : Wish) (buffer : List ℕ) → AskGiven 
 -- a record in range stays in range under every call
 pub record StaysInRange : Type 0 where
   pub ask : (c : Connection) (w : Wish) (buffer : List ℕ) → InRange c → InRange (senderCalls .ask c w buffer .left .connection)
-  pub respond : (c : Connection) (response : List ℕ) (t : Transport) → InRange c → InRange (senderCalls .respond c response t .left)
+  pub takeResponse : (c : Connection) (response : List ℕ) (t : Transport) → InRange c → InRange (senderCalls .takeResponse c response t .left)
   pub acknowledged : (c : Connection) (flight : ℕ) → InRange c → InRange (senderCalls .acknowledged c flight .left)
   pub lost : (c : Connection) → InRange c → InRange (senderCalls .lost c .left)
   pub gaveUp : (c : Connection) → InRange c → InRange (senderCalls .gaveUp c .left)
@@ -174,15 +174,15 @@ pub record StaysInRange : Type 0 where
 -- a refused call hands the record back unchanged, and the buffer; 13, 14 and 15 end the open request and change nothing else
 pub record Unchanged : Type 0 where
   pub ask : (c : Connection) (w : Wish) (buffer : List ℕ) (n : ℕ) → senderCalls .ask c w buffer .said ≡ refuse n → senderCalls .ask c w buffer .left ≡ sending c buffer
-  pub respond : (c : Connection) (response : List ℕ) (t : Transport) (n : ℕ) → senderCalls .respond c response t .said ≡ refuse n
-      → ((n ≤ 12) × (senderCalls .respond c response t .left ≡ c)) ⊎ ((13 ≤ n) × (n ≤ 15) × (senderCalls .respond c response t .left ≡ withState c Idle))
+  pub takeResponse : (c : Connection) (response : List ℕ) (t : Transport) (n : ℕ) → senderCalls .takeResponse c response t .said ≡ refuse n
+      → ((n ≤ 12) × (senderCalls .takeResponse c response t .left ≡ c)) ⊎ ((13 ≤ n) × (n ≤ 15) × (senderCalls .takeResponse c response t .left ≡ withState c Idle))
   pub acknowledged : (c : Connection) (flight n : ℕ) → senderCalls .acknowledged c flight .said ≡ refuse n → senderCalls .acknowledged c flight .left ≡ c
   pub lost : (c : Connection) (n : ℕ) → senderCalls .lost c .said ≡ refuse n → senderCalls .lost c .left ≡ c
   pub gaveUp : (c : Connection) (n : ℕ) → senderCalls .gaveUp c .said ≡ refuse n → senderCalls .gaveUp c .left ≡ c
 
 -- how the window moves: a response never lowers it, and what ends the quick state never raises it
 pub record Windows : Type 0 where
-  pub respond : (c : Connection) (response : List ℕ) (t : Transport) → c .window ≤ senderCalls .respond c response t .left .window
+  pub takeResponse : (c : Connection) (response : List ℕ) (t : Transport) → c .window ≤ senderCalls .takeResponse c response t .left .window
   pub acknowledged : (c : Connection) (flight : ℕ) → senderCalls .acknowledged c flight .left .window ≤ c .window
   pub lost : (c : Connection) → senderCalls .lost c .left .window ≤ c .window
   -- after a loss it is not above the window before, either
@@ -192,10 +192,10 @@ pub record Windows : Type 0 where
 
 -- ours with another asking, and with another response
 abbrev pub askingBy : (Connection → Wish → List ℕ → Outcome (Unit {0}) Sending) → Sender
-askingBy ask = record { ask = ask; respond = senderCalls .respond; acknowledged = senderCalls .acknowledged; lost = senderCalls .lost; gaveUp = senderCalls .gaveUp }
+askingBy ask = record { ask = ask; takeResponse = senderCalls .takeResponse; acknowledged = senderCalls .acknowledged; lost = senderCalls .lost; gaveUp = senderCalls .gaveUp }
 
-abbrev pub respondingBy : (Connection → List ℕ → Transport → Outcome ℕ Connection) → Sender
-respondingBy respond = record { ask = senderCalls .ask; respond = respond; acknowledged = senderCalls .acknowledged; lost = senderCalls .lost; gaveUp = senderCalls .gaveUp }
+abbrev pub takingBy : (Connection → List ℕ → Transport → Outcome ℕ Connection) → Sender
+takingBy take = record { ask = senderCalls .ask; takeResponse = take; acknowledged = senderCalls .acknowledged; lost = senderCalls .lost; gaveUp = senderCalls .gaveUp }
 
 -- what was accepted, with another rate
 abbrev pub accepting : Reply ℕ → ℕ → Reply ℕ
@@ -204,13 +204,13 @@ accepting (refuse n) instead = refuse n
 
 pub record ShutOut : Type 0 where
   -- with its own response, it is ours
-  pub otherwise-ours : (respondingBy (senderCalls .respond) ≡ senderCalls) × (askingBy (senderCalls .ask) ≡ senderCalls)
+  pub otherwise-ours : (takingBy (senderCalls .takeResponse) ≡ senderCalls) × (askingBy (senderCalls .ask) ≡ senderCalls)
   -- "a sender that refuses everything": every response, or every asking, whatever it refuses with, and whatever it leaves
   pub refuses-everything : (number : Connection → List ℕ → Transport → ℕ) (left : Connection → List ℕ → Transport → Connection)
-      → Responds (respondingBy (λ c response t. record { said = refuse (number c response t); left = left c response t })) → ⊥
+      → Takes (takingBy (λ c response t. record { said = refuse (number c response t); left = left c response t })) → ⊥
   pub refuses-every-asking : (number : Connection → Wish → List ℕ → ℕ) (left : Connection → Wish → List ℕ → Sending)
       → Asks (askingBy (λ c w buffer. record { said = refuse (number c w buffer); left = left c w buffer })) → ⊥
   -- "a sender that always says code 1": of what it accepts it says that the rate is 1, whatever it leaves; or it asks for code 1
   pub always-code-1 : (left : Connection → List ℕ → Transport → Connection)
-      → Responds (respondingBy (λ c response t. record { said = accepting (senderCalls .respond c response t .said) 1; left = left c response t })) → ⊥
+      → Takes (takingBy (λ c response t. record { said = accepting (senderCalls .takeResponse c response t .said) 1; left = left c response t })) → ⊥
   pub always-asks-1 : Asks (askingBy (λ c w buffer. senderCalls .ask c (wish 1 (w .ttl) (w .qs) (w .nonce) (w .rtt) (w .time)) buffer)) → ⊥

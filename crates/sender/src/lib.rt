@@ -12,7 +12,7 @@ ghost use Rattle.common.specs.Choice.{within};
 ghost use Rattle.connection.specs.Records.{withState, withWindow};
 ghost use Rattle.connection.specs.declared.State.the-variants.{Idle};
 ghost use Rattle.sender.specs.Calls.{wish, transport, askInRange, isBusy, isSoon, asked, judged, taken, granted, afterResponse, sending, senderCalls};
-ghost use Rattle.sender.specs.Replies.{askTold, verdictTold, judgementTold, stepTold};
+ghost use Rattle.sender.specs.Replies.{askTold, acceptedTold, judgementTold, endTold};
 use connection::Before;
 use connection::Connection;
 use connection::MOST_BYTES;
@@ -43,7 +43,7 @@ use refusals::in_range;
 
 pub enum AskAnswer {
     // The request was written, and the connection waits for the response.
-    Sent,
+    Written,
     Refused(Refusal),
 }
 
@@ -53,26 +53,26 @@ pub struct Asking {
     pub connection: Connection,
 }
 
-pub enum Verdict {
+pub enum ResponseAnswer {
     // The rate accepted, a code from 1 to the one asked.
     Accepted(u32),
     Refused(Refusal),
 }
 
 // What a response gets, and the record afterwards.
-pub struct Responding {
-    pub answer: Verdict,
+pub struct ResponseTaken {
+    pub answer: ResponseAnswer,
     pub connection: Connection,
 }
 
-pub enum Step {
+pub enum EndAnswer {
     Done,
     Refused(Refusal),
 }
 
 // What a first acknowledgement, a loss and giving up answer, and the record afterwards.
-pub struct Stepping {
-    pub answer: Step,
+pub struct Ended {
+    pub answer: EndAnswer,
     pub connection: Connection,
 }
 
@@ -123,17 +123,16 @@ fn is_soon(time: u64, rtt: u64, last: Moment) -> bool
     }
 }
 
-// The record after an asking: asked, with the starting TTL Diff, and the time kept.
+// The record after an asking: asked, with the starting TTL Diff, and the time kept. The round trip takes no part in it.
 fn ask_opened(
     connection: Connection,
     code: u32,
     ttl: u8,
     qs_ttl: u8,
     nonce: u32,
-    rtt: u64,
     time: u64,
 ) -> Connection
-    ensures { λ r. ⌜ r ≡ asked connection (wish code ttl «qs_ttl» nonce rtt time) ⌝ }
+    ensures { λ r. ⌜ r ≡ asked connection (wish code ttl «qs_ttl» nonce 0 time) ⌝ }
 {
     let ttl_diff = response::ttl_diff(ttl, qs_ttl);
     let waiting = with_state(
@@ -197,8 +196,8 @@ pub fn ask(
     }
     request::write(request, code, qs_ttl, nonce);
     Asking {
-        answer: AskAnswer::Sent,
-        connection: ask_opened(connection, code, ttl, qs_ttl, nonce, rtt, time),
+        answer: AskAnswer::Written,
+        connection: ask_opened(connection, code, ttl, qs_ttl, nonce, time),
     }
 }
 
@@ -259,39 +258,39 @@ fn settle(
     rtt: u64,
     mss: u64,
     headers: u64,
-) -> Responding
+) -> ResponseTaken
     requires { ⌜ (request .code ≤ topCode) × (request .nonce < nonceLimit) × (response .nonce < nonceLimit) × (transportInRange rtt mss headers ≡ true) ⌝ }
-    ensures answer { λ r. ⌜ verdictTold (r .answer) ≡ judged request response ⌝ }
+    ensures answer { λ r. ⌜ acceptedTold (r .answer) ≡ judged request response ⌝ }
     ensures record { λ r. ⌜ r .connection ≡ afterResponse connection (transport rtt mss headers) (judged request response) ⌝ }
 {
     match judge(request, response) {
-        Judgement::Fits => Responding {
-            answer: Verdict::Accepted(response.rate),
+        Judgement::Fits => ResponseTaken {
+            answer: ResponseAnswer::Accepted(response.rate),
             connection: grant(connection, response.rate, rtt, mss, headers),
         },
-        Judgement::Refused(why) => Responding {
-            answer: Verdict::Refused(why),
+        Judgement::Refused(why) => ResponseTaken {
+            answer: ResponseAnswer::Refused(why),
             connection: with_state(connection, State::Idle),
         },
     }
 }
 
 // What eight bytes get while asked.
-fn take(
+fn take_while_asked(
     connection: Connection,
     request: OpenRequest,
     response: &[u8],
     rtt: u64,
     mss: u64,
     headers: u64,
-) -> Responding
+) -> ResponseTaken
     requires { ⌜ (request .code ≤ topCode) × (request .nonce < nonceLimit) × (transportInRange rtt mss headers ≡ true) × (length (now response) ≡ optionLength) ⌝ }
-    ensures answer { λ r. ⌜ verdictTold (r .answer) ≡ taken request (now (response .entry)) ⌝ }
+    ensures answer { λ r. ⌜ acceptedTold (r .answer) ≡ taken request (now (response .entry)) ⌝ }
     ensures record { λ r. ⌜ r .connection ≡ afterResponse connection (transport rtt mss headers) (taken request (now (response .entry))) ⌝ }
 {
     match response::read(response) {
-        Reading::Refused(why) => Responding {
-            answer: Verdict::Refused(why),
+        Reading::Refused(why) => ResponseTaken {
+            answer: ResponseAnswer::Refused(why),
             connection,
         },
         Reading::Response(read) => settle(connection, request, read, rtt, mss, headers),
@@ -300,45 +299,45 @@ fn take(
 
 // Takes the response to the open request from a buffer of eight bytes. Accepted or refused with 13, 14 or 15, the
 // request is open no longer.
-pub fn respond(
+pub fn take_response(
     connection: Connection,
     response: &[u8],
     rtt: u64,
     mss: u64,
     headers: u64,
-) -> Responding
-    ensures answer { λ r. ⌜ verdictTold (r .answer) ≡ senderCalls .respond connection (now (response .entry)) (transport rtt mss headers) .said ⌝ }
-    ensures record { λ r. ⌜ r .connection ≡ senderCalls .respond connection (now (response .entry)) (transport rtt mss headers) .left ⌝ }
+) -> ResponseTaken
+    ensures answer { λ r. ⌜ acceptedTold (r .answer) ≡ senderCalls .takeResponse connection (now (response .entry)) (transport rtt mss headers) .said ⌝ }
+    ensures record { λ r. ⌜ r .connection ≡ senderCalls .takeResponse connection (now (response .entry)) (transport rtt mss headers) .left ⌝ }
 {
     if !is_in_range(connection) {
-        return Responding {
-            answer: Verdict::Refused(Refusal::OutOfRange),
+        return ResponseTaken {
+            answer: ResponseAnswer::Refused(Refusal::OutOfRange),
             connection,
         };
     }
     if !transport_in_range(rtt, mss, headers) {
-        return Responding {
-            answer: Verdict::Refused(Refusal::OutOfRange),
+        return ResponseTaken {
+            answer: ResponseAnswer::Refused(Refusal::OutOfRange),
             connection,
         };
     }
     if response.len() != OPTION_LENGTH {
-        return Responding {
-            answer: Verdict::Refused(Refusal::OutOfRange),
+        return ResponseTaken {
+            answer: ResponseAnswer::Refused(Refusal::OutOfRange),
             connection,
         };
     }
     let state = connection.state;
     match state {
-        State::Idle => Responding {
-            answer: Verdict::Refused(Refusal::WrongState),
+        State::Idle => ResponseTaken {
+            answer: ResponseAnswer::Refused(Refusal::WrongState),
             connection,
         },
-        State::Quick(_) => Responding {
-            answer: Verdict::Refused(Refusal::WrongState),
+        State::Quick(_) => ResponseTaken {
+            answer: ResponseAnswer::Refused(Refusal::WrongState),
             connection,
         },
-        State::Asked(request) => take(connection, request, response, rtt, mss, headers),
+        State::Asked(request) => take_while_asked(connection, request, response, rtt, mss, headers),
     }
 }
 
@@ -355,90 +354,90 @@ fn back(connection: Connection, window: u64) -> Connection
 
 // The first acknowledgement while quick, with the bytes in flight: the window is the lesser of itself and the greater
 // of flight and the window before.
-pub fn first_acknowledgement(connection: Connection, flight: u64) -> Stepping
-    ensures answer { λ r. ⌜ stepTold (r .answer) ≡ senderCalls .acknowledged connection flight .said ⌝ }
+pub fn first_acknowledgement(connection: Connection, flight: u64) -> Ended
+    ensures answer { λ r. ⌜ endTold (r .answer) ≡ senderCalls .acknowledged connection flight .said ⌝ }
     ensures record { λ r. ⌜ r .connection ≡ senderCalls .acknowledged connection flight .left ⌝ }
 {
     if !is_in_range(connection) {
-        return Stepping {
-            answer: Step::Refused(Refusal::OutOfRange),
+        return Ended {
+            answer: EndAnswer::Refused(Refusal::OutOfRange),
             connection,
         };
     }
     if flight > MOST_BYTES {
-        return Stepping {
-            answer: Step::Refused(Refusal::OutOfRange),
+        return Ended {
+            answer: EndAnswer::Refused(Refusal::OutOfRange),
             connection,
         };
     }
     let state = connection.state;
     match state {
-        State::Idle => Stepping {
-            answer: Step::Refused(Refusal::WrongState),
+        State::Idle => Ended {
+            answer: EndAnswer::Refused(Refusal::WrongState),
             connection,
         },
-        State::Asked(_) => Stepping {
-            answer: Step::Refused(Refusal::WrongState),
+        State::Asked(_) => Ended {
+            answer: EndAnswer::Refused(Refusal::WrongState),
             connection,
         },
-        State::Quick(before) => Stepping {
-            answer: Step::Done,
+        State::Quick(before) => Ended {
+            answer: EndAnswer::Done,
             connection: back(connection, greater(flight, before.window)),
         },
     }
 }
 
 // A loss while quick: the window is the lesser of itself and the window before.
-pub fn loss(connection: Connection) -> Stepping
-    ensures answer { λ r. ⌜ stepTold (r .answer) ≡ senderCalls .lost connection .said ⌝ }
+pub fn loss(connection: Connection) -> Ended
+    ensures answer { λ r. ⌜ endTold (r .answer) ≡ senderCalls .lost connection .said ⌝ }
     ensures record { λ r. ⌜ r .connection ≡ senderCalls .lost connection .left ⌝ }
 {
     if !is_in_range(connection) {
-        return Stepping {
-            answer: Step::Refused(Refusal::OutOfRange),
+        return Ended {
+            answer: EndAnswer::Refused(Refusal::OutOfRange),
             connection,
         };
     }
     let state = connection.state;
     match state {
-        State::Idle => Stepping {
-            answer: Step::Refused(Refusal::WrongState),
+        State::Idle => Ended {
+            answer: EndAnswer::Refused(Refusal::WrongState),
             connection,
         },
-        State::Asked(_) => Stepping {
-            answer: Step::Refused(Refusal::WrongState),
+        State::Asked(_) => Ended {
+            answer: EndAnswer::Refused(Refusal::WrongState),
             connection,
         },
-        State::Quick(before) => Stepping {
-            answer: Step::Done,
+        State::Quick(before) => Ended {
+            answer: EndAnswer::Done,
             connection: back(connection, before.window),
         },
     }
 }
 
 // Giving up the open request.
-pub fn give_up(connection: Connection) -> Stepping
-    ensures answer { λ r. ⌜ stepTold (r .answer) ≡ senderCalls .gaveUp connection .said ⌝ }
+pub fn give_up(connection: Connection) -> Ended
+    ensures answer { λ r. ⌜ endTold (r .answer) ≡ senderCalls .gaveUp connection .said ⌝ }
     ensures record { λ r. ⌜ r .connection ≡ senderCalls .gaveUp connection .left ⌝ }
 {
     if !is_in_range(connection) {
-        return Stepping {
-            answer: Step::Refused(Refusal::OutOfRange),
+        return Ended {
+            answer: EndAnswer::Refused(Refusal::OutOfRange),
             connection,
         };
     }
     let state = connection.state;
     match state {
-        State::Idle => Stepping {
-            answer: Step::Refused(Refusal::WrongState),
+        State::Idle => Ended {
+            answer: EndAnswer::Refused(Refusal::WrongState),
             connection,
         },
-        State::Quick(_) => Stepping {
-            answer: Step::Refused(Refusal::WrongState),
+        State::Quick(_) => Ended {
+            answer: EndAnswer::Refused(Refusal::WrongState),
             connection,
         },
-        State::Asked(_) => Stepping {
-            answer: Step::Done,
+        State::Asked(_) => Ended {
+            answer: EndAnswer::Done,
             connection: with_state(connection, State::Idle),
         },
     }

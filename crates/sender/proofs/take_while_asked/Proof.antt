@@ -1,12 +1,12 @@
--- `sender::take` meets its contract: what is no response is refused with 12 and leaves the record, and a response is settled. Assumes nothing.
+-- `sender::take_while_asked` meets its contract: what is no response is refused with 12 and leaves the record, and a response is settled. Assumes nothing.
 use mathlib.Core.Path.{sym, ap, _∙_}
 use native.Mathlib.Omega.{arith}
 use Rattle.options.specs.Replies.{responseTold}
 use Rattle.sender.specs.Calls.{transport, afterResponse}
 use Rattle.sender.proofs.CallLaws.{read-nonce, taken-not, taken-read}
 use borrow.Author.Needs.{needs}
-use Rattle.sender.proofs.take.Statement.{statement}
-use Rattle.sender.proofs.take.Tie as tie
+use Rattle.sender.proofs.take_while_asked.Statement.{statement}
+use Rattle.sender.proofs.take_while_asked.Tie as tie
 
 read-requires : tie.Need-read-requires
 read-requires c κs = search needs
@@ -36,7 +36,7 @@ returns-2 c =
     let e = taken-read (a .request) (a .response .now) _ r in
     (c .settle .ensures .0 ∙ e, c .settle .ensures .1 ∙ ap (afterResponse (a .connection) (transport (a .rtt) (a .mss) (a .headers))) e)
 
-pub take-spec : {M : Type 1} → statement M
-take-spec =
+pub take-while-asked-spec : {M : Type 1} → statement M
+take-while-asked-spec =
     tie.close
     (tie.spec read-requires enum-known-why enum-known-read settle-requires returns returns-2)

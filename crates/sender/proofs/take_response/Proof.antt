@@ -1,12 +1,12 @@
--- `sender::respond` meets its contract: past the tests of its numbers it replies by the state. Assumes nothing.
+-- `sender::take_response` meets its contract: past the tests of its numbers it replies by the state. Assumes nothing.
 use mathlib.Core.Path.{ap, _∙_}
 use Rattle.common.specs.Choice.{within}
 use Rattle.common.proofs.Choice.{held, failed}
 use Rattle.sender.specs.Calls.{transport, afterResponse}
 use Rattle.sender.proofs.CallLaws.{response-out, response-transport-out, response-length-out, response-in, asked-in}
 use borrow.Author.Needs.{needs}
-use Rattle.sender.proofs.respond.Statement.{statement}
-use Rattle.sender.proofs.respond.Tie as tie
+use Rattle.sender.proofs.take_response.Statement.{statement}
+use Rattle.sender.proofs.take_response.Tie as tie
 
 is-in-range-requires : tie.Need-is-in-range-requires
 is-in-range-requires c κs = search needs
@@ -47,8 +47,8 @@ enum-told-2 c = search needs
 enum-known-state : tie.Need-enum-known-state
 enum-known-state c = search needs
 
-take-requires : tie.Need-take-requires
-take-requires c κs =
+take-while-asked-requires : tie.Need-take-while-asked-requires
+take-while-asked-requires c κs =
     let a = c .before .before .before .before .before .before .before .before .before .args in
     let q = asked-in (a .connection) (held _ _ (c .before .before .before .before .before .before .before .is-in-range .ensures) (c .before .before .before .before .before .before .if1 .left)) _ (c .before .state .given .1) in
     (q .0, q .1, held _ _ (c .before .before .before .before .before .transport-in-range .ensures) (c .before .before .before .before .if2 .left), c .before .before .before .if3 .left)
@@ -75,10 +75,10 @@ returns-6 c =
     let a = c .before .before .before .before .before .before .before .before .before .before .args in
     let t = transport (a .rtt) (a .mss) (a .headers) in
     let e = response-in (a .connection) (held _ _ (c .before .before .before .before .before .before .before .before .is-in-range .ensures) (c .before .before .before .before .before .before .before .if1 .left)) _ (c .before .before .state .given .1) (a .response .now) t (held _ _ (c .before .before .before .before .before .before .transport-in-range .ensures) (c .before .before .before .before .before .if2 .left)) (c .before .before .before .before .if3 .left) in
-    (c .take .ensures .0 ∙ e, c .take .ensures .1 ∙ ap (afterResponse (a .connection) t) e)
+    (c .take-while-asked .ensures .0 ∙ e, c .take-while-asked .ensures .1 ∙ ap (afterResponse (a .connection) t) e)
 
-pub respond-spec : {M : Type 1} → statement M
-respond-spec =
+pub take-response-spec : {M : Type 1} → statement M
+take-response-spec =
     tie.close
     (tie.spec
     is-in-range-requires
@@ -89,7 +89,7 @@ respond-spec =
     enum-told
     enum-told-2
     enum-known-state
-    take-requires
+    take-while-asked-requires
     returns-4
     returns-5
     returns-6)
