@@ -8,76 +8,39 @@ use Rattle.connection.specs.declared.Mark.{Mark}
 use Rattle.connection.specs.declared.Sample.{Sample}
 use Rattle.connection.specs.declared.Connection.{Connection}
 use Rattle.connection.specs.Records.{mostBytes, mostSamples, withState, withWindow, withSsthresh, withLastRequest, withMark, withSamples, withPeriod}
-use Rattle.connection.specs.Claims.{StateInRange, noSample, InRange}
+use Rattle.connection.specs.Claims.{StateInRange, noSample, InRange, made}
+
+-- a record is in range by those of its parts that have a range
+in-parts : (s : State) (w t : ℕ) (l : Moment) (m : Mark) (p : List Sample) (k : ℕ) (d : Moment)
+    → StateInRange s
+    → 1 ≤ w
+    → w ≤ mostBytes
+    → t ≤ mostBytes
+    → k ≤ mostSamples
+    → ((i : ℕ) → i < k → getD p i noSample .bytes ≤ mostBytes)
+    → InRange (made s w t l m p k d)
+in-parts s w t l m p k d state low high most count samples =
+    record { window-low = low; window-high = high; ssthresh-high = most; state-in = state; count-high = count; samples-in = samples }
 
 module _ (c : Connection) (i : InRange c) where
   pub state-part : (s : State) → StateInRange s → InRange (withState c s)
-  state-part s h = record {
-    window-low = i .window-low;
-    window-high = i .window-high;
-    ssthresh-high = i .ssthresh-high;
-    state-in = h;
-    count-high = i .count-high;
-    samples-in = i .samples-in;
-  }
+  state-part s h = in-parts _ _ _ _ _ _ _ _ h (i .window-low) (i .window-high) (i .ssthresh-high) (i .count-high) (i .samples-in)
 
   pub window-part : (window : ℕ) → 1 ≤ window → window ≤ mostBytes → InRange (withWindow c window)
-  window-part window l h = record {
-    window-low = l;
-    window-high = h;
-    ssthresh-high = i .ssthresh-high;
-    state-in = i .state-in;
-    count-high = i .count-high;
-    samples-in = i .samples-in;
-  }
+  window-part window l h = in-parts _ _ _ _ _ _ _ _ (i .state-in) l h (i .ssthresh-high) (i .count-high) (i .samples-in)
 
   pub ssthresh-part : (ssthresh : ℕ) → ssthresh ≤ mostBytes → InRange (withSsthresh c ssthresh)
-  ssthresh-part ssthresh h = record {
-    window-low = i .window-low;
-    window-high = i .window-high;
-    ssthresh-high = h;
-    state-in = i .state-in;
-    count-high = i .count-high;
-    samples-in = i .samples-in;
-  }
+  ssthresh-part ssthresh h = in-parts _ _ _ _ _ _ _ _ (i .state-in) (i .window-low) (i .window-high) h (i .count-high) (i .samples-in)
 
   pub samples-part : (samples : List Sample) (count : ℕ) → count ≤ mostSamples → ((k : ℕ) → k < count → getD samples k noSample .bytes ≤ mostBytes) → InRange (withSamples c samples count)
-  samples-part samples count h f = record {
-    window-low = i .window-low;
-    window-high = i .window-high;
-    ssthresh-high = i .ssthresh-high;
-    state-in = i .state-in;
-    count-high = h;
-    samples-in = f;
-  }
+  samples-part samples count h f = in-parts _ _ _ _ _ _ _ _ (i .state-in) (i .window-low) (i .window-high) (i .ssthresh-high) h f
 
   -- what has no range
   pub request-part : (last : Moment) → InRange (withLastRequest c last)
-  request-part last = record {
-    window-low = i .window-low;
-    window-high = i .window-high;
-    ssthresh-high = i .ssthresh-high;
-    state-in = i .state-in;
-    count-high = i .count-high;
-    samples-in = i .samples-in;
-  }
+  request-part last = in-parts _ _ _ _ _ _ _ _ (i .state-in) (i .window-low) (i .window-high) (i .ssthresh-high) (i .count-high) (i .samples-in)
 
   pub mark-part : (mark : Mark) → InRange (withMark c mark)
-  mark-part mark = record {
-    window-low = i .window-low;
-    window-high = i .window-high;
-    ssthresh-high = i .ssthresh-high;
-    state-in = i .state-in;
-    count-high = i .count-high;
-    samples-in = i .samples-in;
-  }
+  mark-part mark = in-parts _ _ _ _ _ _ _ _ (i .state-in) (i .window-low) (i .window-high) (i .ssthresh-high) (i .count-high) (i .samples-in)
 
   pub period-part : (period : Moment) → InRange (withPeriod c period)
-  period-part period = record {
-    window-low = i .window-low;
-    window-high = i .window-high;
-    ssthresh-high = i .ssthresh-high;
-    state-in = i .state-in;
-    count-high = i .count-high;
-    samples-in = i .samples-in;
-  }
+  period-part period = in-parts _ _ _ _ _ _ _ _ (i .state-in) (i .window-low) (i .window-high) (i .ssthresh-high) (i .count-high) (i .samples-in)

@@ -225,9 +225,9 @@ granting = 27 ∷ 8 ∷ 2 ∷ 0 ∷ 0 ∷ 0 ∷ 0 ∷ 0 ∷ []
 abbrev buffer8 : List ℕ
 buffer8 = 0 ∷ 0 ∷ 0 ∷ 0 ∷ 0 ∷ 0 ∷ 0 ∷ 0 ∷ []
 
-module _ (respond : Connection → List ℕ → Transport → Outcome ℕ Connection) (a : Takes (takingBy respond)) where
+module _ (take : Connection → List ℕ → Transport → Outcome ℕ Connection) (a : Takes (takingBy take)) where
   -- it is accepted at code 2
-  accepts-2 : respond waiting granting (transport 1 1 20) .said ≡ answer 2
+  accepts-2 : take waiting granting (transport 1 1 20) .said ≡ answer 2
   unfolding inRange stateInRange bytesInRange within transportInRange isResponse wordOf
   accepts-2 =
       ap (λ (o : Outcome ℕ Connection). o .said)
