@@ -8,7 +8,7 @@ ghost use Rattle.walk.specs.Replies.{findingTold};
 ghost use Rattle.ipv4.specs.Headers.{wordAt, headerLength};
 ghost use Rattle.ipv4.specs.Checksums.{allOnes, onesSum, withChecksum, sealed};
 ghost use Rattle.ipv4.specs.Checks.{wellFormed, headerChecked};
-ghost use Rattle.ipv4.specs.Packets.{ttlReply, located, passedOn, forwarded};
+ghost use Rattle.ipv4.specs.Packets.{ttlReply, located, sealedReply, passedOn, forwarded};
 ghost use Rattle.ipv4.specs.Replies.{checkedTold, ttlTold, forwardedTold};
 use refusals::Refusal;
 use walk::Finding;
@@ -51,7 +51,7 @@ pub enum IpTtl {
     Refused(Refusal),
 }
 
-// What passing a packet on answers.
+// What passing a packet on answers, and writing its checksum.
 pub enum Forwarded {
     Done,
     Refused(Refusal),
@@ -188,6 +188,18 @@ pub fn pass_on(packet: &mut [u8]) -> Forwarded
         return Forwarded::Refused(Refusal::TtlExpired);
     }
     packet[TTL] = ttl - 1;
+    seal(packet);
+    Forwarded::Done
+}
+
+// Writes the checksum of a packet anew, for a sender that has made its header.
+pub fn write_checksum(packet: &mut [u8]) -> Forwarded
+    ensures answer { λ r. ⌜ forwardedTold r ≡ done (sealedReply (length (now (packet .entry))) (now (packet .entry))) ⌝ }
+    ensures packet { λ _. ⌜ now (packet .exit) ≡ leaves (now (packet .entry)) (sealedReply (length (now (packet .entry))) (now (packet .entry))) ⌝ }
+{
+    if !well_formed(packet) {
+        return Forwarded::Refused(Refusal::Header);
+    }
     seal(packet);
     Forwarded::Done
 }

@@ -1,0 +1,46 @@
+-- The claims of specs/Claims.antt. Assumes nothing.
+use Rattle.hops.specs.Verdicts.{verdictReply}
+use Rattle.hops.specs.Claims.{Rows, Summing, Joining, JudgingTheorem, JudgingOnly}
+use Rattle.hops.proofs.SpellLaws as spells
+use Rattle.hops.proofs.SummaryLaws as sums
+use Rattle.hops.proofs.JoinLaws as parts
+use Rattle.hops.proofs.VerdictLaws as verdicts
+
+pub rows : Rows
+rows = record {
+  reads = spells.row-reads;
+  only = spells.row-only;
+  seven = spells.row-seven;
+  in-range = spells.spelt-in-range;
+  written = spells.written;
+  together = spells.together;
+}
+
+pub summing : Summing
+summing = record {
+  nobody = sums.sum-nobody;
+  knowing = sums.sum-knowing;
+  silent = sums.sum-silent;
+  row = sums.sum-row;
+  seven = sums.sum-seven;
+  parts = parts.sum-parts;
+  order = parts.sum-order;
+}
+
+pub joining : Joining
+joining = record {
+  tested = sums.ranged-tested;
+  suffices = sums.ranged-suffices;
+  in-range = sums.sum-ranged;
+  joins = parts.joins;
+  seven = parts.join-seven;
+  swapped = parts.swapped;
+  grouped = parts.grouped;
+  again = parts.join-again;
+}
+
+pub judgingTheorem : JudgingTheorem
+judgingTheorem = verdicts.judges
+
+pub judgingOnly : JudgingOnly
+judgingOnly judge j s ttl code ceiling = verdicts.judge-alike judge verdictReply j verdicts.judges s ttl code ceiling

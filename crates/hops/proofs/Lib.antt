@@ -1,0 +1,7 @@
+pub mod RowLaws
+pub mod SpellLaws
+pub mod SummaryLaws
+pub mod JoinLaws
+pub mod SurveyLaws
+pub mod VerdictLaws
+pub mod Claims

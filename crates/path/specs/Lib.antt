@@ -1,0 +1,4 @@
+pub mod Runs
+pub mod Replies
+pub mod Parts
+pub mod Claims
