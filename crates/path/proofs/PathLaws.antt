@@ -6,7 +6,7 @@ use mathlib.Core.Path.{_≡_, refl, sym, ap, ap₂, _∙_}
 use native.Mathlib.Omega.{arith}
 use lib.ListN.{length, length-append}
 use Rattle.common.proofs.Choice.{le-or-gt, clash}
-use Rattle.refusals.specs.Reply.{Reply, answer, andThen, Outcome}
+use Rattle.refusals.specs.Reply.{Reply, answer, refuse, andThen, Outcome}
 use Rattle.options.specs.declared.request.Request.{Request}
 use Rattle.options.specs.Requests.{requestRead}
 use Rattle.walk.specs.declared.Place.{Place}
@@ -16,10 +16,8 @@ use Rattle.router.specs.Claims.{Carries}
 use Rattle.connection.specs.declared.OpenRequest.{OpenRequest}
 use Rattle.connection.specs.declared.State.the-variants.{Asked}
 use Rattle.connection.specs.declared.Connection.{Connection}
-use Rattle.sender.specs.Calls.{Wish}
 use Rattle.sender.specs.Claims.{AskGiven, Sent}
 use Rattle.sender.proofs.AskClaims.{sentOnly}
-use Rattle.sender.proofs.Claims.{staysInRange}
 use Rattle.hops.specs.declared.Router.{Router}
 use Rattle.hops.specs.declared.Router.the-variants.{Knowing, Silent}
 use Rattle.hops.specs.declared.Summary.{Summary}
@@ -30,7 +28,8 @@ use Rattle.hops.proofs.JoinLaws.{sum-parts, sum-order, join-answers}
 use Rattle.hops.proofs.VerdictLaws.{verdict-answers, is-lost, is-unanswered, is-refused, is-accepted}
 use Rattle.hops.proofs.Claims.{rows}
 use Rattle.path.specs.Runs.{pathCalls, arrived}
-use Rattle.path.specs.Claims.{Given, Demanded, verdictBy, AllKnow, AllAllow, Passable, leastAlong, Accepting, Cut, part, both, whole, joinedParts, summedUp, Cutting, InRanges}
+use Rattle.path.specs.Demands.{Setting, verdictBy}
+use Rattle.path.specs.Claims.{Demanded, AllKnow, AllAllow, Passable, leastAlong, Accepting, Cut, part, both, whole, joinedParts, summedUp, Cutting, InRanges}
 use Rattle.path.proofs.FlightLaws.{Flying, Through, LostOn, travels}
 use Rattle.path.proofs.EndLaws.{endVerdict, ends-unanswered, ends-14, ends-accepted}
 
@@ -42,37 +41,31 @@ silent-few (Silent ∷ rest) = omega (arith, silent-few rest)
 
 -- ---- a path's verdict is its summary's
 
-module _ (g : Given) (d : Demanded pathCalls g) where
-  abbrev w : Wish
-  w = g .wish
-
-  abbrev after : Connection
-  after = pathCalls .ask (g .connection) (g .wish) (g .buffer) .left .connection
-
-  given : AskGiven (g .connection) (g .wish) (g .buffer)
+module _ (g : Setting) (d : Demanded pathCalls g) where
+  pub given : AskGiven (g .connection) (g .wish) (g .buffer)
   given = sentOnly (g .connection) (g .wish) (g .buffer) (d .qs-byte) (d .asked) .0
 
-  sent : Sent (g .connection) (g .wish) (pathCalls .ask (g .connection) (g .wish) (g .buffer) .left)
+  pub sent : Sent (g .connection) (g .wish) (pathCalls .ask (g .connection) (g .wish) (g .buffer) .left)
   sent = sentOnly (g .connection) (g .wish) (g .buffer) (d .qs-byte) (d .asked) .3
 
-  abbrev open-request : OpenRequest
+  abbrev pub open-request : OpenRequest
   open-request = record { code = g .wish .code; «ttl_diff» = sent .diff; nonce = g .wish .nonce }
 
-  waits : after .state ≡ Asked open-request
-  waits = ap (λ (c : Connection). c .state) (sent .connection-is)
+  pub waits : g .waiting .state ≡ Asked open-request
+  waits = d .still-open ∙ ap (λ (c : Connection). c .state) (sent .connection-is)
 
-  ranges : InRanges after (g .ceiling) (g .transport)
+  pub ranges : InRanges (g .waiting) (g .ceiling) (g .transport)
   ranges = record {
-    record-in = staysInRange .ask (g .connection) (g .wish) (g .buffer) (given .record-in);
+    record-in = d .waiting-in;
     ceiling-high = d .ceiling-high;
     transport-given = d .transport-given;
   }
 
   -- the packet carries what the sender wrote
-  abbrev asked-for : Request
+  abbrev pub asked-for : Request
   asked-for = record { rate = g .wish .code; «qs_ttl» = g .wish .qs; nonce = g .wish .nonce }
 
-  carries : Carries (length (g .packet)) (g .packet) (d .carried .place) (g .wish .ttl) asked-for
+  pub carries : Carries (length (g .packet)) (g .packet) (d .carried .place) (g .wish .ttl) asked-for
   carries = record {
     bytes = d .carried .bytes;
     located-at = d .carried .faultless;
@@ -86,7 +79,7 @@ module _ (g : Given) (d : Demanded pathCalls g) where
   flying = record { below = omega arith; byte = d .qs-byte; short = λ h. omega (arith, sent .diff-is, given .ttl-high); agrees = refl }
 
   ended : Outcome (Unit {0}) (List ℕ) → Verdict
-  ended o = arrived pathCalls after (g .transport) (g .ceiling) (o .said) (o .left) .verdict
+  ended o = arrived pathCalls (g .waiting) (g .transport) (g .ceiling) (o .said) (o .left) .verdict
 
   pub summary-law : verdictBy pathCalls g ≡ verdictOf (summaryOf (g .routers)) (g .wish .ttl) (g .wish .code) (g .ceiling)
   unfolding ended summaryOf
@@ -101,20 +94,20 @@ module _ (g : Given) (d : Demanded pathCalls g) where
           rate = t .flown .rate-is
 
           came : verdictBy pathCalls g
-              ≡ endVerdict after (g .transport) open-request (g .ceiling) ranges waits (t .new) (d .carried .place) (g .wish .ttl - length (g .routers)) (t .last) (t .carries)
+              ≡ endVerdict (g .waiting) (g .transport) open-request (g .ceiling) ranges waits (t .new) (d .carried .place) (g .wish .ttl - length (g .routers)) (t .last) (t .carries)
           came = ap ended (t .came)
 
           by-silent : 1 ≤ min (t .last .rate) (g .ceiling) → (silentOnes (g .routers) ≤ 0) ⊎ (0 < silentOnes (g .routers))
               → verdictBy pathCalls g ≡ verdictOf (summaryOf (g .routers)) (g .wish .ttl) (g .wish .code) (g .ceiling)
           by-silent h (inl z) =
               came
-              ∙ ends-accepted after (g .transport) open-request (g .ceiling) ranges waits (t .new) (d .carried .place) (g .wish .ttl - length (g .routers)) (t .last) (t .carries) h
+              ∙ ends-accepted (g .waiting) (g .transport) open-request (g .ceiling) ranges waits (t .new) (d .carried .place) (g .wish .ttl - length (g .routers)) (t .last) (t .carries) h
               (0 + silentOnes (g .routers)) (t .flown .flies open-request 0 flying) (omega (arith, given .ttl-high)) (omega arith) (sent .diff-byte) (omega arith)
               ∙ ap accepted {x = min (t .last .rate) (g .ceiling)} (omega (arith, rate))
               ∙ sym (is-accepted (summaryOf (g .routers)) (g .wish .ttl) (g .wish .code) (g .ceiling) (t .outlasts) (omega (arith, rate)) (omega arith))
           by-silent h (inr k) =
               came
-              ∙ ends-14 after (g .transport) open-request (g .ceiling) ranges waits (t .new) (d .carried .place) (g .wish .ttl - length (g .routers)) (t .last) (t .carries) h
+              ∙ ends-14 (g .waiting) (g .transport) open-request (g .ceiling) ranges waits (t .new) (d .carried .place) (g .wish .ttl - length (g .routers)) (t .last) (t .carries) h
               (0 + silentOnes (g .routers)) (t .flown .flies open-request 0 flying) (omega (arith, given .ttl-high)) (omega (arith, silent-few (g .routers), t .outlasts, given .ttl-high)) (sent .diff-byte) (omega arith)
               ∙ sym (is-refused (summaryOf (g .routers)) (g .wish .ttl) (g .wish .code) (g .ceiling) (t .outlasts) (omega (arith, rate)) k)
 
@@ -122,11 +115,17 @@ module _ (g : Given) (d : Demanded pathCalls g) where
               → verdictBy pathCalls g ≡ verdictOf (summaryOf (g .routers)) (g .wish .ttl) (g .wish .code) (g .ceiling)
           by-rate (inl z) =
               came
-              ∙ ends-unanswered after (g .transport) open-request (g .ceiling) ranges waits (t .new) (d .carried .place) (g .wish .ttl - length (g .routers)) (t .last) (t .carries) (omega arith)
+              ∙ ends-unanswered (g .waiting) (g .transport) open-request (g .ceiling) ranges waits (t .new) (d .carried .place) (g .wish .ttl - length (g .routers)) (t .last) (t .carries) (omega arith)
               ∙ sym (is-unanswered (summaryOf (g .routers)) (g .wish .ttl) (g .wish .code) (g .ceiling) (t .outlasts) (omega (arith, rate)))
           by-rate (inr h) = by-silent h (le-or-gt (silentOnes (g .routers)) 0)
 
 -- ---- accepted exactly when
+
+same-number : (n m : ℕ) → _≡_ {A = Reply (Unit {0})} (refuse n) (refuse m) → n ≡ m
+same-number n m e = cc
+
+pub no-number : (n : ℕ) → _≡_ {A = Reply (Unit {0})} (refuse n) (answer tt) → ⊥
+no-number n e = clash (cc)
 
 -- verdicts of different kinds are different
 pub same-rate : (a b : ℕ) → accepted a ≡ accepted b → a ≡ b
@@ -171,7 +170,7 @@ along code [] ceiling h = omega arith
 along code (Knowing own fresh ∷ rest) ceiling h = let e = along code rest ceiling h in omega (arith, e)
 along code (Silent ∷ rest) ceiling h = along code rest ceiling h
 
-module _ (g : Given) (d : Demanded pathCalls g) where
+module _ (g : Setting) (d : Demanded pathCalls g) where
   high : g .wish .code ≤ 15
   high = given g d .code-high
 
@@ -236,7 +235,7 @@ summed-up (both a b) h =
     together : length (whole a) + length (whole b) ≤ 64 → summaryOf (whole a) .routers + summaryOf (whole b) .routers ≤ 64
     together k = rw (sum-routers (whole a), sum-routers (whole b)) k
 
-module _ (g : Given) (d : Demanded pathCalls g) (cut : Cut) (all : whole cut ≡ g .routers) where
+module _ (g : Setting) (d : Demanded pathCalls g) (cut : Cut) (all : whole cut ≡ g .routers) where
   pub cut-verdict : verdictOf (joinedParts cut) (g .wish .ttl) (g .wish .code) (g .ceiling) ≡ verdictBy pathCalls g
   cut-verdict = ap (λ (s : Summary). verdictOf s (g .wish .ttl) (g .wish .code) (g .ceiling)) (joined-parts cut ∙ ap summaryOf all) ∙ sym (summary-law g d)
 
@@ -261,10 +260,19 @@ module _ (g : Given) (d : Demanded pathCalls g) (cut : Cut) (all : whole cut ≡
 pub cutting : Cutting pathCalls
 cutting = record { verdict = cut-verdict; by-calls = cut-by-calls }
 
-pub ordered : (g h : Given) → Demanded pathCalls g → Demanded pathCalls h → List·Permᴰ (g .routers) (h .routers) → g .wish .ttl ≡ h .wish .ttl → g .wish .code ≡ h .wish .code
+pub ordered : (g h : Setting) → Demanded pathCalls g → Demanded pathCalls h → List·Permᴰ (g .routers) (h .routers) → g .wish .ttl ≡ h .wish .ttl → g .wish .code ≡ h .wish .code
     → g .ceiling ≡ h .ceiling → verdictBy pathCalls g ≡ verdictBy pathCalls h
 ordered g h d k p t c u =
     summary-law g d
     ∙ ap₂ (λ (s : Summary) (n : ℕ). verdictOf s n (g .wish .code) (g .ceiling)) (sum-order (g .routers) (h .routers) p) t
     ∙ ap₂ (λ (n m : ℕ). verdictOf (summaryOf (h .routers)) (h .wish .ttl) n m) c u
     ∙ sym (summary-law h k)
+
+-- ---- nothing but a 6 ends a travel
+
+pub by-6 : (g : Setting) → Demanded pathCalls g → (n : ℕ) → pathCalls .travel (g .routers) (g .packet) .said ≡ refuse n → n ≡ 6
+by-6 g d n e = go (travels (g .routers) (d .routers-given) (g .packet) (d .carried .place) (g .wish .ttl) (asked-for g d) (carries g d) (given g d .ttl-low) (given g d .code-high))
+  where
+    go : LostOn (g .packet) (g .wish .ttl) (g .routers) ⊎ Through (g .packet) (d .carried .place) (g .wish .ttl) (asked-for g d) (g .routers) → n ≡ 6
+    go (inl l) = same-number n 6 (sym e ∙ ap (λ (o : Outcome (Unit {0}) (List ℕ)). o .said) (l .lost-by))
+    go (inr t) = absurd (no-number n (sym e ∙ ap (λ (o : Outcome (Unit {0}) (List ℕ)). o .said) (t .came)))

@@ -20,7 +20,8 @@ use Rattle.connection.specs.declared.Connection.{Connection}
 use Rattle.sender.specs.Calls.{Wish}
 use Rattle.sender.proofs.AskClaims.{sentOnly}
 use Rattle.path.specs.Runs.{pathCalls}
-use Rattle.path.specs.Claims.{Carried, plain}
+use Rattle.path.specs.Demands.{headerWith, plain}
+use Rattle.path.specs.Claims.{Carried}
 
 -- an option of type 25 and length 8, in a header without any other
 module _ (ttl c d e f g h : ℕ) (bound : (ttl < 256) × (c < 256) × (d < 256) × (e < 256) × (f < 256) × (g < 256) × (h < 256)) where
@@ -70,15 +71,28 @@ module _ (ttl c d e f g h : ℕ) (bound : (ttl < 256) × (c < 256) × (d < 256) 
   }
 
 -- what an accepted asking wrote is such an option
-pub carried : (c : Connection) (w : Wish) (buffer : List ℕ) → w .qs < 256 → pathCalls .ask c w buffer .said ≡ answer tt
-    → Carried (pathCalls .ask c w buffer .left .request) (w .ttl) (plain (w .ttl) (pathCalls .ask c w buffer .left .request))
-carried c w buffer q e =
-    let given = sentOnly c w buffer q e .0 in
-    let sent = sentOnly c w buffer q e .3 in
-    let o = pathCalls .ask c w buffer .left .request in
-    let is = request-is o _ (sent .reads) in
-    let form : o ≡ 25 ∷ 8 ∷ getD o 2 0 ∷ getD o 3 0 ∷ getD o 4 0 ∷ getD o 5 0 ∷ getD o 6 0 ∷ getD o 7 0 ∷ [] =
-    written-out 8 o (is .len) ∙ ap₂ (λ (x y : ℕ). x ∷ y ∷ getD o 2 0 ∷ getD o 3 0 ∷ getD o 4 0 ∷ getD o 5 0 ∷ getD o 6 0 ∷ getD o 7 0 ∷ []) (is .kind) (is .second) in
-    subst (λ (l : List ℕ). Carried l (w .ttl) (plain (w .ttl) l)) (sym form)
-    (plain-carries (w .ttl) (getD o 2 0) (getD o 3 0) (getD o 4 0) (getD o 5 0) (getD o 6 0) (getD o 7 0)
-    (omega (arith, given .ttl-high), sent .bytes 2, sent .bytes 3, sent .bytes 4, sent .bytes 5, sent .bytes 6, sent .bytes 7))
+module _ (c : Connection) (w : Wish) (buffer : List ℕ) (q : w .qs < 256) (e : pathCalls .ask c w buffer .said ≡ answer tt) where
+  abbrev wrote : List ℕ
+  wrote = pathCalls .ask c w buffer .left .request
+
+  written-so : wrote ≡ 25 ∷ 8 ∷ getD wrote 2 0 ∷ getD wrote 3 0 ∷ getD wrote 4 0 ∷ getD wrote 5 0 ∷ getD wrote 6 0 ∷ getD wrote 7 0 ∷ []
+  written-so =
+      let is = request-is wrote _ (sentOnly c w buffer q e .3 .reads) in
+      written-out 8 wrote (is .len)
+      ∙ ap₂ (λ (x y : ℕ). x ∷ y ∷ getD wrote 2 0 ∷ getD wrote 3 0 ∷ getD wrote 4 0 ∷ getD wrote 5 0 ∷ getD wrote 6 0 ∷ getD wrote 7 0 ∷ []) (is .kind) (is .second)
+
+  all-bytes : (w .ttl < 256) × (getD wrote 2 0 < 256) × (getD wrote 3 0 < 256) × (getD wrote 4 0 < 256) × (getD wrote 5 0 < 256) × (getD wrote 6 0 < 256) × (getD wrote 7 0 < 256)
+  all-bytes =
+      let sent = sentOnly c w buffer q e .3 in
+      (omega (arith, sentOnly c w buffer q e .0 .ttl-high), sent .bytes 2, sent .bytes 3, sent .bytes 4, sent .bytes 5, sent .bytes 6, sent .bytes 7)
+
+  pub carried : Carried wrote (w .ttl) (plain (w .ttl) wrote)
+  carried =
+      subst (λ (l : List ℕ). Carried l (w .ttl) (plain (w .ttl) l)) (sym written-so)
+      (plain-carries (w .ttl) (getD wrote 2 0) (getD wrote 3 0) (getD wrote 4 0) (getD wrote 5 0) (getD wrote 6 0) (getD wrote 7 0) all-bytes)
+
+  -- and its header is well formed before the checksum is written
+  pub formed : wellFormed (length (headerWith (w .ttl) wrote)) (headerWith (w .ttl) wrote) ≡ true
+  formed =
+      subst (λ (l : List ℕ). wellFormed (length (headerWith (w .ttl) l)) (headerWith (w .ttl) l) ≡ true) (sym written-so)
+      (well (w .ttl) (getD wrote 2 0) (getD wrote 3 0) (getD wrote 4 0) (getD wrote 5 0) (getD wrote 6 0) (getD wrote 7 0) all-bytes)

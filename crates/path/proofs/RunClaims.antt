@@ -1,7 +1,7 @@
 -- The claims on the call of a run: which refusal is given, that there is no other such call, and what can arise of a run that started. Assumes nothing.
 use Prim.Native.Nat.{ℕ, _≤_, _<_, min}
 use mathlib.Core.Bool.{Bool, true, false, _&&_}
-use mathlib.Core.List.{List, [], _∷_}
+use mathlib.Core.List.{List, [], _∷_, List·Permᴰ}
 use mathlib.Core.Logic.{_⊎_, inl, inr, ⊎-elim}
 use mathlib.Core.Option.{Option, none, some}
 use mathlib.Core.Path.{_≡_, refl, sym, ap, subst, _∙_}
@@ -35,21 +35,26 @@ use Rattle.connection.specs.declared.Connection.{Connection}
 use Rattle.connection.specs.Records.{inRange}
 use Rattle.connection.specs.Claims.{StateInRange}
 use Rattle.connection.proofs.Claims.{ranges}
-use Rattle.sender.specs.Calls.{Transport, whileAsked, judged}
+use Rattle.sender.specs.Calls.{Transport, whileAsked, judged, senderCalls}
 use Rattle.sender.proofs.CallLaws.{ends, response-in}
 use Rattle.sender.proofs.ResponseClaims.{acceptedOnly}
 use Rattle.hops.specs.declared.Router.{Router}
 use Rattle.hops.specs.Rows.{hopsFrom, rowOf}
-use Rattle.hops.specs.Claims.{RoutersInRange}
+use Rattle.hops.specs.Claims.{RoutersInRange, Spells}
 use Rattle.hops.specs.Verdicts as Verdicts
-use Rattle.hops.specs.Verdicts.{Verdict, lost}
+use Rattle.hops.specs.Verdicts.{Verdict, lost, verdictReply}
 use Rattle.hops.proofs.Claims.{rows}
-use Rattle.path.specs.Runs.{hop, onward, travelBy, pathCalls, journey, saidOf, blank, concluded, arrived, runBy, runInRange, whereAsked, runCall}
+use Rattle.path.specs.Runs.{hop, onward, travelBy, pathCalls, journey, saidOf, blank, concluded, arrived, runBy, runInRange, whereAsked, runCall, Journey}
 use Rattle.path.specs.Parts.{startReply}
-use Rattle.path.specs.Claims.{TransportGiven, RunCall, InRanges, Starts, Runs, Arises, Running}
+use Rattle.path.specs.Claims.{TransportGiven, RunCall, InRanges, Starts, Testing, Arises, Running, Demanded, Cut, part, both, whole, wholeRow, saidBy, CallLaw, Leaving}
+use Rattle.path.specs.Demands.{Setting, verdictBy}
 use Rattle.path.proofs.RunLaws.{call-no-row, call-out, call-refused, call-ran}
 use Rattle.path.proofs.FlightLaws.{hop-six, Through, LostOn, travels}
+use Rattle.path.proofs.PathLaws.{open-request, asked-for, waits, ranges as run-ranges, carries, cut-by-calls, ordered}
 use Rattle.path.proofs.EndLaws.{response-long, endVerdict, ends-unanswered, answer-came, by-sender}
+use Rattle.hops.specs.declared.Summary.{Summary}
+use Rattle.hops.proofs.SummaryLaws.{sum-routers}
+use Rattle.hops.proofs.JoinLaws.{sum-order}
 
 -- ---- ranges
 
@@ -135,7 +140,7 @@ module _ (c : Connection) (packet row : List ℕ) (ceiling : ℕ) (t : Transport
           let a = call-ran 64 c packet row ceiling t routers is-row (in-ranges c ceiling t g) (runBy pathCalls c t ceiling routers packet) e refl in
           same-outcome _ _ (sym (a .0)) (sym (a .1))
 
-tests : Runs (runCall 64)
+tests : Testing (runCall 64)
 tests = record {
   seven-row = call-seven-row;
   seven = λ c packet row ceiling t routers e n. call-seven c packet row ceiling t routers e n;
@@ -149,7 +154,7 @@ tests = record {
 
 -- ---- no other call has these
 
-module _ (call : RunCall) (a : Runs call) (c : Connection) (packet row : List ℕ) (ceiling : ℕ) (t : Transport) where
+module _ (call : RunCall) (a : Testing call) (c : Connection) (packet row : List ℕ) (ceiling : ℕ) (t : Transport) where
   abbrev Same : Type 0
   Same = call c packet row ceiling t ≡ runCall 64 c packet row ceiling t
 
@@ -277,10 +282,70 @@ module _ (c : Connection) (ceiling : ℕ) (t : Transport) where
   kept (answer u) packet e = by-report packet (pathCalls .receive ceiling packet) e
   kept (refuse n) packet e = refl
 
+-- ---- demand 3 of the call, on bytes
+
+module _ (g : Setting) (d : Demanded pathCalls g) where
+  -- demand 3's run is one that starts
+  pub said-of-row : (row : List ℕ) → rowOf 64 row ≡ answer (g .routers) → saidBy (runCall 64) g row ≡ answer (verdictBy pathCalls g)
+  said-of-row row e =
+      ap (λ (o : Outcome Verdict Journey). o .said)
+      (tests .starts (g .waiting) (g .packet) row (g .ceiling) (g .transport) (g .routers) (open-request g d) (g .wish .ttl) (asked-for g d)
+      (record { row-is = e; ranges = run-ranges g d; viewed = carries g d .viewed; waits = waits g d }))
+
+  pub said-of : (row : List ℕ) → Spells (g .routers) row → length (g .routers) ≤ 64 → saidBy (runCall 64) g row ≡ answer (verdictBy pathCalls g)
+  said-of row s h = said-of-row row (rows .reads 64 (g .routers) row s h)
+
+-- a list in another order is as long
+perm-length : (a b : List Router) → List·Permᴰ a b → length a ≡ length b
+perm-length a b p = sym (sum-routers a) ∙ ap (λ (s : Summary). s .routers) (sum-order a b p) ∙ sum-routers b
+
+-- the rows of the parts, one behind the other, spell the whole path
+whole-spelt : (cut : Cut) → Spells (whole cut) (wholeRow cut)
+whole-spelt (part routers row spells) = spells
+whole-spelt (both a b) = rows .together (whole a) (whole b) (wholeRow a) (wholeRow b) (whole-spelt a) (whole-spelt b)
+
+pub callLaw : CallLaw
+callLaw = record {
+  verdict = λ g row d s h. said-of g d row s h;
+  cutting = λ g d cut e h.
+      let c = cut-by-calls g d cut e h in
+      ap (λ (r : Reply Summary). andThen r (λ s. verdictReply s (g .wish .ttl) (g .wish .code) (g .ceiling))) (c .1)
+      ∙ c .2
+      ∙ sym (said-of g d (wholeRow cut) (subst (λ (l : List Router). Spells l (wholeRow cut)) e (whole-spelt cut)) h);
+  order = λ g h x y d k s u few p t c r.
+      said-of g d x s few ∙ ap answer (ordered g h d k p t c r) ∙ sym (said-of h k y u (rw (sym (perm-length (g .routers) (h .routers) p)) few));
+}
+
 pub running : Running
 running = record {
   tests = tests;
   only = λ call a c packet row ceiling t. by-row call a c packet row ceiling t (rowOf 64 row) refl;
   arises = arises-by;
-  record-kept = λ c packet ceiling t routers e. kept c ceiling t (pathCalls .travel routers packet .said) (pathCalls .travel routers packet .left) e;
+}
+
+-- ---- what a run leaves
+
+module _ (c : Connection) (ceiling : ℕ) (t : Transport) where
+  left-packet : (said : Reply (Unit {0})) (packet : List ℕ) → arrived pathCalls c t ceiling said packet .left .packet ≡ packet
+  left-packet (answer u) packet = by-answer (pathCalls .receive ceiling packet)
+    where
+      by-answer : (x : Reply Report) → concluded pathCalls c t packet x .left .packet ≡ packet
+      by-answer (answer unanswered) = refl
+      by-answer (answer (reported r)) = refl
+      by-answer (refuse n) = refl
+  left-packet (refuse n) packet = refl
+
+  left-taken : (said : Reply (Unit {0})) (packet : List ℕ) (r : Response) → said ≡ answer tt → pathCalls .receive ceiling packet ≡ answer (reported r)
+      → arrived pathCalls c t ceiling said packet .left .connection ≡ senderCalls .takeResponse c (responseAfter blank (answer (reported r))) t .left
+  left-taken said packet r e f =
+      ap (λ (x : Reply (Unit {0})). arrived pathCalls c t ceiling x packet .left .connection) e ∙ ap (λ (x : Reply Report). concluded pathCalls c t packet x .left .connection) f
+
+pub leaving : Leaving
+leaving = record {
+  nobody = λ packet. refl;
+  goes-on = λ router rest packet new e. ap (λ (r : Reply (List ℕ)). onward packet r (travelBy hop rest)) e;
+  stops = λ router rest packet n e. ap (λ (r : Reply (List ℕ)). onward packet r (travelBy hop rest)) e;
+  packet = λ c packet ceiling t routers. left-packet c ceiling t (pathCalls .travel routers packet .said) (pathCalls .travel routers packet .left);
+  kept = λ c packet ceiling t routers e. kept c ceiling t (pathCalls .travel routers packet .said) (pathCalls .travel routers packet .left) e;
+  taken = λ c packet ceiling t routers r e f. left-taken c ceiling t (pathCalls .travel routers packet .said) (pathCalls .travel routers packet .left) r e f;
 }

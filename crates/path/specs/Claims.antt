@@ -5,23 +5,27 @@ use mathlib.Core.List.{List, [], _∷_, _++_, List·Permᴰ}
 use mathlib.Core.Logic.{_⊎_}
 use mathlib.Core.Option.{none, some}
 use mathlib.Core.Path.{_≡_}
+use lib.Dec.{eqb}
 use lib.ListN.{length, getD, take, drop}
+use Rattle.common.specs.Choice.{pick}
 use Rattle.common.specs.Lists.{Bytes}
 use Rattle.refusals.specs.Reply.{Reply, answer, refuse, andThen, Outcome, answering, refusing}
 use Rattle.options.specs.declared.request.Request.{Request}
-use Rattle.walk.specs.declared.Place.the-variants.{Nowhere, At}
-use Rattle.ipv4.specs.Checksums.{sealed}
+use Rattle.options.specs.declared.response.Response.{Response}
+use Rattle.walk.specs.declared.Place.the-variants.{At}
 use Rattle.ipv4.specs.Packets.{located}
-use Rattle.ipv4.specs.Views.{View, view}
+use Rattle.ipv4.specs.Views.{view}
 use Rattle.router.specs.Claims.{touchingNothing}
+use Rattle.router.specs.Traffic.{codeLeft}
+use Rattle.receiver.specs.Reports.{reported, responseAfter}
 use Rattle.connection.specs.declared.OpenRequest.{OpenRequest}
 use Rattle.connection.specs.declared.Before.{Before}
 use Rattle.connection.specs.declared.State.the-variants.{Idle, Asked, Quick}
 use Rattle.connection.specs.declared.Connection.{Connection}
 use Rattle.connection.specs.Records.{freshWith}
 use Rattle.connection.specs.Claims.{InRange}
-use Rattle.sender.specs.Calls.{Wish, Transport, senderCalls}
-use Rattle.sender.specs.Claims.{AskGiven, accepting}
+use Rattle.sender.specs.Calls.{Wish, wish, Transport, Sending, senderCalls}
+use Rattle.sender.specs.Claims.{AskGiven}
 use Rattle.hops.specs.declared.Router.{Router}
 use Rattle.hops.specs.declared.Router.the-variants.{Knowing, Silent}
 use Rattle.hops.specs.declared.Summary.{Summary}
@@ -29,7 +33,8 @@ use Rattle.hops.specs.Rows.{rowOf}
 use Rattle.hops.specs.Summaries.{summaryOf, summaryReply, joined, joinReply}
 use Rattle.hops.specs.Verdicts.{Verdict, lost, unanswered, notAccepted, accepted, verdictOf, verdictReply}
 use Rattle.hops.specs.Claims.{Spells, RoutersInRange}
-use Rattle.path.specs.Runs.{Calls, hop, onward, travelBy, pathCalls, Journey, journey, runBy, runCall}
+use Rattle.path.specs.Runs.{Calls, hop, onward, travelBy, pathCalls, Journey, journey, blank, runBy, runCall}
+use Rattle.path.specs.Demands.{Setting, verdictBy, plain}
 
 -- ---- what demand 3 starts from
 
@@ -50,28 +55,17 @@ pub record TransportGiven (t : Transport) : Type 0 where
   pub headers-low : 20 ≤ t .headers
   pub headers-high : t .headers ≤ 120
 
--- what a run is given: the record before the asking, what is asked, the buffer and the packet; T, MSS and H; the receiver's ceiling and the routers
-pub record Given : Type 0 where
-  pub connection : Connection
-  pub wish : Wish
-  pub buffer : List ℕ
-  pub packet : List ℕ
-  pub transport : Transport
-  pub ceiling : ℕ
-  pub routers : List Router
-
--- the asking was accepted, the packet carries the request that it wrote, and "all numbers in their ranges". Of the list of routers there is no limit
-pub record Demanded (calls : Calls) (g : Given) : Type 0 where
+-- the asking was accepted, so that its numbers and the record are in range; the packet carries the request that it wrote; the response comes "while that request is open", to a record in the
+-- state that asking left; and "all numbers in their ranges". Of the list of routers there is no limit
+pub record Demanded (calls : Calls) (g : Setting) : Type 0 where
   pub qs-byte : g .wish .qs < 256
   pub asked : calls .ask (g .connection) (g .wish) (g .buffer) .said ≡ answer tt
   pub carried : Carried (calls .ask (g .connection) (g .wish) (g .buffer) .left .request) (g .wish .ttl) (g .packet)
+  pub still-open : g .waiting .state ≡ calls .ask (g .connection) (g .wish) (g .buffer) .left .connection .state
+  pub waiting-in : InRange (g .waiting)
   pub transport-given : TransportGiven (g .transport)
   pub ceiling-high : g .ceiling ≤ 15
   pub routers-given : RoutersInRange (g .routers)
-
--- the verdict of the run, with "the state that asking left"
-abbrev pub verdictBy : Calls → Given → Verdict
-verdictBy calls g = runBy calls (calls .ask (g .connection) (g .wish) (g .buffer) .left .connection) (g .transport) (g .ceiling) (g .routers) (g .packet) .verdict
 
 -- ---- accepted exactly when
 
@@ -87,7 +81,7 @@ AllAllow (Knowing ceiling fresh ∷ rest) = (1 ≤ ceiling) × AllAllow rest
 AllAllow (Silent ∷ rest) = AllAllow rest
 
 -- "its starting TTL is greater than the number of routers, every router knows Quick-Start, and every router and the receiver allow at least step 1"
-pub record Passable (g : Given) : Type 0 where
+pub record Passable (g : Setting) : Type 0 where
   pub outlasts : length (g .routers) < g .wish .ttl
   pub all-know : AllKnow (g .routers)
   pub all-allow : AllAllow (g .routers)
@@ -100,8 +94,8 @@ leastAlong code (Knowing own fresh ∷ rest) ceiling = min own (leastAlong code 
 leastAlong code (Silent ∷ rest) ceiling = leastAlong code rest ceiling
 
 pub record Accepting (calls : Calls) : Type 0 where
-  pub accepts : (g : Given) → Demanded calls g → Passable g → verdictBy calls g ≡ accepted (leastAlong (g .wish .code) (g .routers) (g .ceiling))
-  pub only : (g : Given) → Demanded calls g → (rate : ℕ) → verdictBy calls g ≡ accepted rate
+  pub accepts : (g : Setting) → Demanded calls g → Passable g → verdictBy calls g ≡ accepted (leastAlong (g .wish .code) (g .routers) (g .ceiling))
+  pub only : (g : Setting) → Demanded calls g → (rate : ℕ) → verdictBy calls g ≡ accepted rate
       → Passable g × (rate ≡ leastAlong (g .wish .code) (g .routers) (g .ceiling))
 
 -- ---- cutting and order
@@ -127,39 +121,41 @@ summedUp (both a b) = andThen (summedUp a) (λ x. andThen (summedUp b) (λ y. jo
 
 -- "At whichever places the path is cut, the joined summaries of its parts .. give the same verdict and rate as walking the whole path."
 pub record Cutting (calls : Calls) : Type 0 where
-  pub verdict : (g : Given) → Demanded calls g → (cut : Cut) → whole cut ≡ g .routers → verdictOf (joinedParts cut) (g .wish .ttl) (g .wish .code) (g .ceiling) ≡ verdictBy calls g
+  pub verdict : (g : Setting) → Demanded calls g → (cut : Cut) → whole cut ≡ g .routers → verdictOf (joinedParts cut) (g .wish .ttl) (g .wish .code) (g .ceiling) ≡ verdictBy calls g
   -- on rows of at most 64 neither summing up nor joining gives 7, nor does the verdict's call
-  pub by-calls : (g : Given) → Demanded calls g → (cut : Cut) → whole cut ≡ g .routers → length (g .routers) ≤ 64
+  pub by-calls : (g : Setting) → Demanded calls g → (cut : Cut) → whole cut ≡ g .routers → length (g .routers) ≤ 64
       → (s : Summary) × (summedUp cut ≡ answer s) × (verdictReply s (g .wish .ttl) (g .wish .code) (g .ceiling) ≡ answer (verdictBy calls g))
+
+-- ---- there is something to run
+
+pub record NotEmpty (calls : Calls) : Type 0 where
+  -- from a fresh record every asking with numbers in range is accepted
+  pub asks : (window ssthresh : ℕ) (w : Wish) (buffer : List ℕ) → AskGiven (freshWith window ssthresh) w buffer → calls .ask (freshWith window ssthresh) w buffer .said ≡ answer tt
+  -- and for the eight bytes that any accepted asking wrote, with whatever starting TTL, there is a packet that carries them
+  pub packets : (c : Connection) (w : Wish) (buffer : List ℕ) → w .qs < 256 → calls .ask c w buffer .said ≡ answer tt
+      → Carried (calls .ask c w buffer .left .request) (w .ttl) (plain (w .ttl) (calls .ask c w buffer .left .request))
 
 -- ---- demand 3
 
+-- "A path's verdict equals its summary's"
+abbrev pub AsSummary : Calls → Type 0
+AsSummary calls = (g : Setting) → Demanded calls g → verdictBy calls g ≡ verdictOf (summaryOf (g .routers)) (g .wish .ttl) (g .wish .code) (g .ceiling)
+
 pub record Demand3 (calls : Calls) : Type 0 where
-  -- "A path's verdict equals its summary's"
-  pub summary : (g : Given) → Demanded calls g → verdictBy calls g ≡ verdictOf (summaryOf (g .routers)) (g .wish .ttl) (g .wish .code) (g .ceiling)
+  pub not-empty : NotEmpty calls
+  pub summary : AsSummary calls
   -- "a sender asking for step 1 to 15 accepts exactly when .. The rate is then the least of the request and all ceilings."
   pub accepting : Accepting calls
   pub cutting : Cutting calls
-  -- "So does every order of the same routers", each with its own nonce; whatever else differs, starting QS TTL and nonces among it
-  pub order : (g h : Given) → Demanded calls g → Demanded calls h → List·Permᴰ (g .routers) (h .routers) → g .wish .ttl ≡ h .wish .ttl → g .wish .code ≡ h .wish .code
+  -- "So does every order of the same routers", each with its own nonce; records, packets, T, MSS and H, starting QS TTLs and nonces may differ too: they do not matter
+  pub order : (g h : Setting) → Demanded calls g → Demanded calls h → List·Permᴰ (g .routers) (h .routers) → g .wish .ttl ≡ h .wish .ttl → g .wish .code ≡ h .wish .code
       → g .ceiling ≡ h .ceiling → verdictBy calls g ≡ verdictBy calls h
+  -- "lost (a router gave 6)": nothing else ends a travel, however long the path
+  pub lost-by-6 : (g : Setting) → Demanded calls g → (n : ℕ) → calls .travel (g .routers) (g .packet) .said ≡ refuse n → n ≡ 6
 
 -- ours has it
 abbrev pub PathLaw : Type 0
 PathLaw = Demand3 pathCalls
-
--- ---- there is something to run
-
--- a packet of 28 bytes: a header with one option, sent with an IP TTL, and nothing behind it
-abbrev pub plain : ℕ → List ℕ → List ℕ
-plain ttl option = sealed ((71 ∷ 0 ∷ 0 ∷ 28 ∷ 0 ∷ 0 ∷ 0 ∷ 0 ∷ ttl ∷ 6 ∷ 0 ∷ 0 ∷ 10 ∷ 0 ∷ 0 ∷ 1 ∷ 10 ∷ 0 ∷ 0 ∷ 2 ∷ []) ++ option)
-
-pub record NotEmpty : Type 0 where
-  -- from a fresh record every asking with numbers in range is accepted
-  pub asks : (window ssthresh : ℕ) (w : Wish) (buffer : List ℕ) → AskGiven (freshWith window ssthresh) w buffer → pathCalls .ask (freshWith window ssthresh) w buffer .said ≡ answer tt
-  -- and for the eight bytes that any accepted asking wrote, with whatever starting TTL, there is a packet that carries them
-  pub packets : (c : Connection) (w : Wish) (buffer : List ℕ) → w .qs < 256 → pathCalls .ask c w buffer .said ≡ answer tt
-      → Carried (pathCalls .ask c w buffer .left .request) (w .ttl) (plain (w .ttl) (pathCalls .ask c w buffer .left .request))
 
 -- ---- the call
 
@@ -180,8 +176,8 @@ pub record Starts (c : Connection) (packet row : List ℕ) (ceiling : ℕ) (t : 
   pub viewed : view (length packet) packet ≡ answer (record { ttl = ttl; request = some r })
   pub waits : c .state ≡ Asked q
 
--- "7 for all .., then 1, 2, 3, 5 and 4 on the packet as lent, then 11": a refused run leaves packet and record
-pub record Runs (call : RunCall) : Type 0 where
+-- 7 for all numbers and the row, then 1, 2, 3, 5 and 4 on the packet as lent, then 11: a refused run leaves packet and record
+pub record Testing (call : RunCall) : Type 0 where
   pub seven-row : (c : Connection) (packet row : List ℕ) (ceiling : ℕ) (t : Transport) (n : ℕ) → rowOf 64 row ≡ refuse n → call c packet row ceiling t ≡ refusing 7 (journey packet c)
   pub seven : (c : Connection) (packet row : List ℕ) (ceiling : ℕ) (t : Transport) (routers : List Router) → rowOf 64 row ≡ answer routers → (InRanges c ceiling t → ⊥)
       → call c packet row ceiling t ≡ refusing 7 (journey packet c)
@@ -206,20 +202,60 @@ Arises routers packet (notAccepted n) = (13 ≤ n) × (n ≤ 15)
 Arises routers packet (accepted rate) = (1 ≤ rate) × (rate ≤ 15)
 
 pub record Running : Type 0 where
-  pub tests : Runs (runCall 64)
+  pub tests : Testing (runCall 64)
   -- whatever call has these is ours, for every packet and row
-  pub only : (call : RunCall) → Runs call → (c : Connection) (packet row : List ℕ) (ceiling : ℕ) (t : Transport) → call c packet row ceiling t ≡ runCall 64 c packet row ceiling t
+  pub only : (call : RunCall) → Testing call → (c : Connection) (packet row : List ℕ) (ceiling : ℕ) (t : Transport) → call c packet row ceiling t ≡ runCall 64 c packet row ceiling t
   -- what arises, for every packet of bytes and row of bytes; a request that is not the one the record asked for is judged by the sender
   pub arises : (c : Connection) (packet row : List ℕ) (ceiling : ℕ) (t : Transport) (routers : List Router) (q : OpenRequest) (ttl : ℕ) (r : Request)
       → Bytes packet → Bytes row → Starts c packet row ceiling t routers q ttl r → Arises routers packet (runBy pathCalls c t ceiling routers packet .verdict)
-  -- what was lost or unanswered leaves the record as it was
-  pub record-kept : (c : Connection) (packet : List ℕ) (ceiling : ℕ) (t : Transport) (routers : List Router)
+
+-- the travel, hop by hop, and what a run leaves
+pub record Leaving : Type 0 where
+  pub nobody : (packet : List ℕ) → pathCalls .travel [] packet ≡ answering tt packet
+  -- "on the packet as the last one left it"
+  pub goes-on : (router : Router) (rest : List Router) (packet new : List ℕ) → hop router packet ≡ answer new → pathCalls .travel (router ∷ rest) packet ≡ pathCalls .travel rest new
+  -- "a 6 ending the run"
+  pub stops : (router : Router) (rest : List Router) (packet : List ℕ) (n : ℕ) → hop router packet ≡ refuse n → pathCalls .travel (router ∷ rest) packet ≡ refusing n packet
+  pub packet : (c : Connection) (packet : List ℕ) (ceiling : ℕ) (t : Transport) (routers : List Router)
+      → runBy pathCalls c t ceiling routers packet .left .packet ≡ pathCalls .travel routers packet .left
+  -- what was lost or unanswered leaves the record as it was; a response leaves the one that the sender's call leaves
+  pub kept : (c : Connection) (packet : List ℕ) (ceiling : ℕ) (t : Transport) (routers : List Router)
       → (runBy pathCalls c t ceiling routers packet .verdict ≡ lost) ⊎ (runBy pathCalls c t ceiling routers packet .verdict ≡ unanswered)
       → runBy pathCalls c t ceiling routers packet .left .connection ≡ c
+  pub taken : (c : Connection) (packet : List ℕ) (ceiling : ℕ) (t : Transport) (routers : List Router) (response : Response) → pathCalls .travel routers packet .said ≡ answer tt
+      → pathCalls .receive ceiling (pathCalls .travel routers packet .left) ≡ answer (reported response)
+      → runBy pathCalls c t ceiling routers packet .left .connection ≡ senderCalls .takeResponse c (responseAfter blank (answer (reported response))) t .left
+
+-- ---- demand 3 of the call, on bytes
+
+-- the bytes of a path in parts
+abbrev pub wholeRow : Cut → List ℕ
+wholeRow (part routers row spells) = row
+wholeRow (both a b) = wholeRow a ++ wholeRow b
+
+-- what the call says over a row
+abbrev pub saidBy : RunCall → Setting → List ℕ → Reply Verdict
+saidBy call g row = call (g .waiting) (g .packet) row (g .ceiling) (g .transport) .said
+
+pub record OnBytes (call : RunCall) : Type 0 where
+  -- a run of demand 3 over a row of at most 64 is not refused, and says its verdict
+  pub verdict : (g : Setting) (row : List ℕ) → Demanded pathCalls g → Spells (g .routers) row → length (g .routers) ≤ 64 → saidBy call g row ≡ answer (verdictBy pathCalls g)
+  -- the rows of the parts summed up and joined by the calls, and judged, say what the call says of the whole row
+  pub cutting : (g : Setting) → Demanded pathCalls g → (cut : Cut) → whole cut ≡ g .routers → length (g .routers) ≤ 64
+      → andThen (summedUp cut) (λ s. verdictReply s (g .wish .ttl) (g .wish .code) (g .ceiling)) ≡ saidBy call g (wholeRow cut)
+  -- two rows of the same routers in another order say the same
+  pub order : (g h : Setting) (x y : List ℕ) → Demanded pathCalls g → Demanded pathCalls h → Spells (g .routers) x → Spells (h .routers) y → length (g .routers) ≤ 64
+      → List·Permᴰ (g .routers) (h .routers) → g .wish .ttl ≡ h .wish .ttl → g .wish .code ≡ h .wish .code → g .ceiling ≡ h .ceiling → saidBy call g x ≡ saidBy call h y
+
+abbrev pub CallLaw : Type 0
+CallLaw = OnBytes (runCall 64)
 
 -- ---- paths of which demand 3 is false
 
--- ours with another travel, and with another response
+-- ours with another asking, another travel, another receiver, and another response
+abbrev pub asking : (Connection → Wish → List ℕ → Outcome (Unit {0}) Sending) → Calls
+asking ask = record { ask = ask; travel = pathCalls .travel; receive = pathCalls .receive; takeResponse = pathCalls .takeResponse }
+
 abbrev pub travelling : (List Router → List ℕ → Outcome (Unit {0}) (List ℕ)) → Calls
 travelling travel = record { ask = pathCalls .ask; travel = travel; receive = pathCalls .receive; takeResponse = pathCalls .takeResponse }
 
@@ -239,6 +275,11 @@ abbrev pub firstThenSilent : List Router → List ℕ → Outcome (Unit {0}) (Li
 firstThenSilent [] packet = answering tt packet
 firstThenSilent (router ∷ rest) packet = travelBy hop (router ∷ allSilent rest) packet
 
+-- a packet whose rate has become 0 goes straight to the receiver
+abbrev pub stopping : List Router → List ℕ → Outcome (Unit {0}) (List ℕ)
+stopping [] packet = answering tt packet
+stopping (router ∷ rest) packet = onward packet (hop router packet) (λ new. pick (eqb (codeLeft new) 0) (answering tt new) (stopping rest new))
+
 -- a router that touches nothing
 abbrev pub idleHop : Router → List ℕ → Reply (List ℕ)
 idleHop (Knowing ceiling fresh) packet = touchingNothing (length packet) ceiling fresh packet
@@ -246,15 +287,20 @@ idleHop Silent packet = hop Silent packet
 
 pub record ShutOut : Type 0 where
   -- with its own parts, it is ours
-  pub otherwise-ours : (travelling (pathCalls .travel) ≡ pathCalls) × (taking (pathCalls .takeResponse) ≡ pathCalls)
-  -- "a sender that refuses everything": whatever it refuses with, and whatever it leaves
+  pub otherwise-ours : (asking (pathCalls .ask) ≡ pathCalls) × (travelling (pathCalls .travel) ≡ pathCalls) × (taking (pathCalls .takeResponse) ≡ pathCalls)
+  -- "a sender that refuses everything": every response, whatever it refuses with and whatever it leaves; or every asking
   pub refuses-everything : (number : Connection → List ℕ → Transport → ℕ) (left : Connection → List ℕ → Transport → Connection)
       → Accepting (taking (λ c response t. refusing (number c response t) (left c response t))) → ⊥
-  -- "a sender that always says code 1"
-  pub always-code-1 : (left : Connection → List ℕ → Transport → Connection)
-      → Accepting (taking (λ c response t. record { said = accepting (senderCalls .takeResponse c response t .said) 1; left = left c response t })) → ⊥
+  pub refuses-every-asking : (number : Connection → Wish → List ℕ → ℕ) (left : Connection → Wish → List ℕ → Sending)
+      → NotEmpty (asking (λ c w buffer. refusing (number c w buffer) (left c w buffer))) → ⊥
+  -- "a sender that always says code 1": whenever it accepts, and whatever it leaves; or that always asks for code 1
+  pub always-code-1 : (take : Connection → List ℕ → Transport → Outcome ℕ Connection)
+      → ((c : Connection) (response : List ℕ) (t : Transport) (rate : ℕ) → take c response t .said ≡ answer rate → rate ≡ 1) → Accepting (taking take) → ⊥
+  pub always-asks-1 : Accepting (asking (λ c w buffer. senderCalls .ask c (wish 1 (w .ttl) (w .qs) (w .nonce) (w .rtt) (w .time)) buffer)) → ⊥
   -- "a path walk that asks the first router and lets the others pass"
   pub first-only : Accepting (travelling firstOnly) → ⊥
   pub first-then-silent : Accepting (travelling firstThenSilent) → ⊥
+  -- one that stops at a denial loses no packet behind it
+  pub stops-at-a-denial : AsSummary (travelling stopping) → ⊥
   -- "a router that touches nothing, though it passes as an identity in any order"
   pub touches-nothing : Accepting (travelling (travelBy idleHop)) → ⊥

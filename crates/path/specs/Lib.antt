@@ -1,4 +1,5 @@
 pub mod Runs
+pub mod Demands
 pub mod Replies
 pub mod Parts
 pub mod Claims

@@ -29,7 +29,7 @@ use Rattle.hops.specs.Verdicts.{Verdict}
 pub record Calls : Type 0 where
   -- the sender asks: it writes a request into a buffer
   pub ask : Connection → Wish → List ℕ → Outcome (Unit {0}) Sending
-  -- the routers of the path, on the packet as the last one left it
+  -- the routers of the path, on the packet as the last one left it. It is one call, so that a claim can tell a travel that leaves routers out
   pub travel : List Router → List ℕ → Outcome (Unit {0}) (List ℕ)
   -- the receiver with its ceiling
   pub receive : ℕ → List ℕ → Reply Report
@@ -98,7 +98,7 @@ module _ (calls : Calls) (c : Connection) (t : Transport) where
       ran (saidOf (outcome .said)) packet (outcome .left)
   concluded packet (refuse n) = ran (Verdicts.notAccepted n) packet c
 
-  -- "lost (a router gave 6)", or else "then the receiver"
+  -- "lost (a router gave 6)", or else "then the receiver". Every refusal that ends a travel is told as lost; that none but a 6 arises is claimed
   abbrev pub arrived : ℕ → Reply (Unit {0}) → List ℕ → Run
   arrived ceiling (answer _) packet = concluded packet (calls .receive ceiling packet)
   arrived ceiling (refuse n) packet = ran Verdicts.lost packet c
@@ -109,7 +109,7 @@ module _ (calls : Calls) (c : Connection) (t : Transport) where
 
 -- ---- the call
 
--- "ceilings .. 0 to 15", T, MSS and H, and the record
+-- "ceilings 0 to 15", T, MSS and H, and the record
 unfoldable pub runInRange : Connection → ℕ → Transport → Bool
 runInRange c ceiling t = leb ceiling topCode && transportInRange (t .rtt) (t .mss) (t .headers) && inRange c
 
