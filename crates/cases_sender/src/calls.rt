@@ -172,7 +172,7 @@ fn asking(code: u32, ttl: u8, qs_ttl: u8, nonce: u32, rtt: u64, time: u64) {
 // The answer, and the buffer after it.
 fn sent(answer: AskAnswer, request: &[u8]) {
     match answer {
-        AskAnswer::Written => say(b": sent"),
+        AskAnswer::Written => say(b": written"),
         AskAnswer::Refused(why) => refused(why),
     }
     say(b",");
@@ -214,7 +214,7 @@ pub fn ask(
 }
 
 fn responding(response: &[u8], rtt: u64, mss: u64, headers: u64) {
-    say(b"respond");
+    say(b"take response");
     bytes(response);
     named(b" T", rtt);
     named(b" MSS", mss);

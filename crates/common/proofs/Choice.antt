@@ -39,6 +39,27 @@ pub chosen : {A : Type 0} (t : Bool) (x y : A) → t ≡ true → pick t x y ≡
 chosen true x y e = refl
 chosen false x y e = absurd (clash (cc))
 
+-- ---- how a test falls
+
+-- a test does not fall both ways
+pub not-both : (t : Bool) → t ≡ true → t ≡ false → ⊥
+not-both t e f = clash (cc)
+
+-- a test that cannot be true is false
+pub untrue : (t : Bool) → (t ≡ true → ⊥) → t ≡ false
+untrue true f = absurd (f refl)
+untrue false f = refl
+
+-- what a true test gives, or the test is false
+pub tested : {P : Type 0} (t : Bool) → (t ≡ true → P) → P ⊎ (t ≡ false)
+tested true f = inl (f refl)
+tested false f = inr refl
+
+-- what a test tells holds, or does not hold
+pub either : {P : Type 0} (t : Bool) → (t ≡ true → P) → (P → t ≡ true) → P ⊎ (P → ⊥)
+either true f g = inl (f refl)
+either false f g = inr (λ p. not-both false (g p) refl)
+
 -- one number is at most another, or above it
 pub le-or-gt : (a b : ℕ) → (a ≤ b) ⊎ (b < a)
 le-or-gt a b = go (leb a b) refl
@@ -62,11 +83,7 @@ unfolding within
 within-high lo n hi e = leb-true n hi (both-true (leb lo n) (leb n hi) e .1)
 
 pub not-within : (lo n hi : ℕ) → ((lo ≤ n) × (n ≤ hi) → ⊥) → within lo n hi ≡ false
-not-within lo n hi f = go (within lo n hi) refl
-  where
-    go : (t : Bool) → within lo n hi ≡ t → within lo n hi ≡ false
-    go true e = absurd (f (within-low lo n hi e, within-high lo n hi e))
-    go false e = e
+not-within lo n hi f = untrue (within lo n hi) (λ e. f (within-low lo n hi e, within-high lo n hi e))
 
 pub in-within : (lo n hi : ℕ) → lo ≤ n → n ≤ hi → within lo n hi ≡ true
 unfolding within

@@ -5,7 +5,7 @@ use mathlib.Core.Logic.{_⊎_, inl, inr, ⊎-elim}
 use mathlib.Core.Path.{_≡_, refl, sym, ap, subst, _∙_}
 use native.Mathlib.Omega.{arith}
 use Rattle.common.specs.Choice.{within}
-use Rattle.common.proofs.Choice.{clash, both-true, within-low, within-high, in-within, not-within, le-or-gt}
+use Rattle.common.proofs.Choice.{clash, not-both, untrue, tested, both-true, within-low, within-high, in-within, not-within, le-or-gt}
 use Rattle.refusals.specs.Reply.{Reply, answer, refuse, refusing, answering}
 use Rattle.rates.specs.Window.{largestSegment}
 use Rattle.connection.specs.declared.Mark.{Mark}
@@ -33,13 +33,6 @@ module _ (c : Connection) (mss : ℕ) where
   given e =
       let b = both-true (inRange c) (within 1 mss largestSegment) e in
       record { record-in = ranges .tested c (b .0); mss-low = within-low 1 mss largestSegment (b .1); mss-high = within-high 1 mss largestSegment (b .1) }
-
-  either-given : EchoGiven c mss ⊎ (testOf c mss ≡ false)
-  either-given = go (testOf c mss) refl
-    where
-      go : (t : Bool) → testOf c mss ≡ t → EchoGiven c mss ⊎ (testOf c mss ≡ false)
-      go true e = inl (given e)
-      go false e = inr e
 
 -- ---- what ours says, and leaves by that
 
@@ -80,7 +73,7 @@ no-mark-ahead ack = refl
 
 pub echoes : Echoes congestionCalls
 echoes = record {
-  seven = λ c ack highest mss n. ⊎-elim (λ (g : EchoGiven c mss). absurd (n g)) (out c ack highest mss) (either-given c mss);
+  seven = λ c ack highest mss n. out c ack highest mss (untrue (testOf c mss) (λ e. n (given c mss e)));
   no-mark = λ c ack highest mss g e. reacts c ack highest mss g (ap (isAhead ack) e ∙ no-mark-ahead ack);
   ahead = λ c ack highest mss mark by g e m l h d. reacts c ack highest mss g (ap (isAhead ack) e ∙ ahead-true ack mark by m l h d);
   otherwise = λ c ack highest mss mark by g e m o d. by-ahead c ack highest mss g false (ap (isAhead ack) e ∙ ahead-false ack mark by m o d);
@@ -118,11 +111,8 @@ module _ (g : Congestion) (a : Echoes g) (c : Connection) (ack highest mss : ℕ
   echo-only =
       ⊎-elim
       (λ (p : EchoGiven c mss). by-mark p (c .mark) refl)
-      (λ (e : testOf c mss ≡ false). a .seven c ack highest mss (λ p. clash (not-both e p)) ∙ sym (out c ack highest mss e))
-      (either-given c mss)
-    where
-      not-both : testOf c mss ≡ false → EchoGiven c mss → _≡_ {A = ℕ} 0 1
-      not-both e p = let t = passes c mss p in cc
+      (λ (e : testOf c mss ≡ false). a .seven c ack highest mss (λ p. not-both (testOf c mss) (passes c mss p) e) ∙ sym (out c ack highest mss e))
+      (tested (testOf c mss) (given c mss))
 
 -- ---- what follows
 
@@ -140,7 +130,7 @@ echo-by P c ack highest mss p f =
     ⊎-elim
     (λ (g : EchoGiven c mss). by-test-of g (isAhead ack (c .mark)) refl)
     (λ (e : testOf c mss ≡ false). subst (λ o. P (o .left)) (sym (out c ack highest mss e)) p)
-    (either-given c mss)
+    (tested (testOf c mss) (given c mss))
   where
     by-test-of : EchoGiven c mss → (t : Bool) → isAhead ack (c .mark) ≡ t → P (congestionCalls .echo c ack highest mss .left)
     by-test-of g true e = subst (λ o. P (o .left)) (sym (reacts c ack highest mss g e)) (f g)
@@ -154,7 +144,7 @@ reacted-left c ack highest mss e =
     ⊎-elim
     (λ (g : EchoGiven c mss). (g, ap (afterEcho c highest mss) e))
     (λ (o : testOf c mss ≡ false). let z = sym (ap (λ x. x .said) (out c ack highest mss o)) ∙ e in absurd (clash (cc)))
-    (either-given c mss)
+    (tested (testOf c mss) (given c mss))
 
 pub reactsOnce : ReactsOnce
 reactsOnce c ack highest mss later highest' mss' behind h l e b d low high =

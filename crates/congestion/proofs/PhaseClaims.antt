@@ -1,13 +1,13 @@
 -- The claims on the phase. Assumes nothing.
 use Prim.Native.Nat.{ℕ, _+_, _*_, _/_, _≤_, _<_, max}
 use mathlib.Core.Bool.{Bool, true, false, _&&_}
-use mathlib.Core.Logic.{_⊎_, inl, inr, ⊎-elim}
+use mathlib.Core.Logic.{⊎-elim}
 use mathlib.Core.Option.{Option, none, some}
 use mathlib.Core.Path.{_≡_, refl, sym, ap, subst, _∙_}
 use native.Mathlib.Omega.{arith}
 use borrow.Author.Tests.{le-leb, lt-leb, lt-ltb, le-ltb}
 use Rattle.common.specs.Choice.{within}
-use Rattle.common.proofs.Choice.{clash, both-true, within-low, within-high, in-within, le-or-gt}
+use Rattle.common.proofs.Choice.{not-both, untrue, tested, both-true, within-low, within-high, in-within, le-or-gt}
 use Rattle.refusals.specs.Reply.{Reply, answer, refuse, refusing, answering}
 use Rattle.rates.specs.Window.{longestRtt}
 use Rattle.connection.specs.declared.Moment.{Moment}
@@ -51,13 +51,6 @@ module _ (c : Connection) (rtt initial : ℕ) where
         initial-low = within-low 1 initial largestInitial (n .1);
         initial-high = within-high 1 initial largestInitial (n .1);
       }
-
-  either-given : PhaseGiven c rtt initial ⊎ (testOf c rtt initial ≡ false)
-  either-given = go (testOf c rtt initial) refl
-    where
-      go : (t : Bool) → testOf c rtt initial ≡ t → PhaseGiven c rtt initial ⊎ (testOf c rtt initial ≡ false)
-      go true e = inl (given e)
-      go false e = inr e
 
 -- ---- what ours says, and leaves by that
 
@@ -133,7 +126,7 @@ module _ (c : Connection) (rtt initial time : ℕ) where
 
 pub phases : Phases congestionCalls
 phases = record {
-  seven = λ c rtt initial time n. ⊎-elim (λ (g : PhaseGiven c rtt initial). absurd (n g)) (out c rtt initial time) (either-given c rtt initial);
+  seven = λ c rtt initial time n. out c rtt initial time (untrue (testOf c rtt initial) (λ e. n (given c rtt initial e)));
   nine-newest = λ c rtt initial time newest others g e h. too-early c rtt initial time g (early-newest c time newest others e h);
   nine-start = λ c rtt initial time start g e h. too-early c rtt initial time g (early-start c time start e h);
   undefined = λ c rtt initial time g t u. is-validated c rtt initial time g t (judged c rtt time none (is-undefined rtt time (samplesOf c) u) ∙ undefined-is (c .window));
@@ -175,11 +168,8 @@ module _ (g : Congestion) (a : Phases g) (c : Connection) (rtt initial time : �
   phase-only =
       ⊎-elim
       (λ (p : PhaseGiven c rtt initial). by-when p (when c time))
-      (λ (e : testOf c rtt initial ≡ false). a .seven c rtt initial time (λ p. clash (not-both e p)) ∙ sym (out c rtt initial time e))
-      (either-given c rtt initial)
-    where
-      not-both : testOf c rtt initial ≡ false → PhaseGiven c rtt initial → _≡_ {A = ℕ} 0 1
-      not-both e p = let t = passes c rtt initial p in cc
+      (λ (e : testOf c rtt initial ≡ false). a .seven c rtt initial time (λ p. not-both (testOf c rtt initial) (passes c rtt initial p) e) ∙ sym (out c rtt initial time e))
+      (tested (testOf c rtt initial) (given c rtt initial))
 
 -- ---- what follows
 
@@ -191,7 +181,7 @@ phase-by P c rtt initial time p f h =
     ⊎-elim
     (λ (g : PhaseGiven c rtt initial). by-when-of g (when c time))
     (λ (e : testOf c rtt initial ≡ false). subst (λ o. P (o .left)) (sym (out c rtt initial time e)) p)
-    (either-given c rtt initial)
+    (tested (testOf c rtt initial) (given c rtt initial))
   where
     by-over : PhaseGiven c rtt initial → (b : Bool) → isOver time (c .period) ≡ b → P (runOn initial time c)
     by-over g true e = subst P (period-over initial time c e) (h g)

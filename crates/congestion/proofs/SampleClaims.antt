@@ -2,7 +2,7 @@
 use Prim.Native.Nat.{ℕ, zero, suc, _+_, _-_, _≤_, _<_, min}
 use mathlib.Core.Bool.{Bool, true, false, _&&_}
 use mathlib.Core.List.{List, [], _∷_}
-use mathlib.Core.Logic.{_⊎_, inl, inr, ⊎-elim}
+use mathlib.Core.Logic.{⊎-elim}
 use mathlib.Core.Path.{_≡_, refl, sym, ap, subst, _∙_}
 use native.Mathlib.Omega.{arith}
 use borrow.Author.Tests.{le-leb, lt-ltb, le-ltb, leb-true}
@@ -10,7 +10,7 @@ use lib.Dec.{leb}
 use lib.ListN.{getD, take}
 use lib.Seq.{take-take, length-take-le}
 use Rattle.common.specs.Choice.{pick}
-use Rattle.common.proofs.Choice.{clash, both-true, le-or-gt}
+use Rattle.common.proofs.Choice.{clash, not-both, untrue, tested, both-true, le-or-gt}
 use Rattle.refusals.specs.Reply.{Reply, answer, refuse, Outcome, outcomeOf, refusing, answering}
 use Rattle.connection.specs.declared.Moment.{Moment}
 use Rattle.connection.specs.declared.Moment.the-variants.{Absent, At}
@@ -96,13 +96,6 @@ module _ (c : Connection) (s : Sample) where
       let b = both-true (inRange c) (leb (s .bytes) mostBytes) e in
       record { record-in = ranges .tested c (b .0); bytes-high = leb-true (s .bytes) mostBytes (b .1) }
 
-  either-given : SampleGiven c s ⊎ (testOf c s ≡ false)
-  either-given = go (testOf c s) refl
-    where
-      go : (t : Bool) → testOf c s ≡ t → SampleGiven c s ⊎ (testOf c s ≡ false)
-      go true e = inl (given e)
-      go false e = inr e
-
   -- ---- what ours says and leaves
 
   by-reply : (x : Reply Connection) → x ≡ sampleReply c s → congestionCalls .sample c s ≡ outcomeOf c x
@@ -147,7 +140,7 @@ is-added c s h = record {
 
 pub samples : Samples congestionCalls
 samples = record {
-  seven = λ c s n. ⊎-elim (λ (g : SampleGiven c s). absurd (n g)) (out c s) (either-given c s);
+  seven = λ c s n. out c s (untrue (testOf c s) (λ e. n (given c s e)));
   nine-newest = λ c s newest others g e h. too-early c s g (early-newest c (s .time) newest others e h);
   nine-start = λ c s start g e h. too-early c s g (early-start c (s .time) start e h);
   added = λ c s g t.
@@ -183,11 +176,8 @@ module _ (g : Congestion) (a : Samples g) (c : Connection) (s : Sample) where
   sample-only =
       ⊎-elim
       (λ (p : SampleGiven c s). by-when p (when c (s .time)))
-      (λ (e : testOf c s ≡ false). refused-alike 7 (a .seven c s (λ p. clash (not-both e p))) (out c s e))
-      (either-given c s)
-    where
-      not-both : testOf c s ≡ false → SampleGiven c s → _≡_ {A = ℕ} 0 1
-      not-both e p = let t = passes c s p in cc
+      (λ (e : testOf c s ≡ false). refused-alike 7 (a .seven c s (λ p. not-both (testOf c s) (passes c s p) e)) (out c s e))
+      (tested (testOf c s) (given c s))
 
 -- ---- what follows
 
@@ -197,7 +187,7 @@ sample-by P c s p f =
     ⊎-elim
     (λ (g : SampleGiven c s). by-when-of g (when c (s .time)))
     (λ (e : testOf c s ≡ false). subst (λ o. P (o .left)) (sym (out c s e)) p)
-    (either-given c s)
+    (tested (testOf c s) (given c s))
   where
     by-when-of : SampleGiven c s → When c (s .time) → P (congestionCalls .sample c s .left)
     by-when-of g (fine t) = subst (λ o. P (o .left)) (sym (done c s g t)) (f g)
@@ -225,7 +215,7 @@ kept-after c s e =
     ⊎-elim
     (λ (g : SampleGiven c s). by-time g (when c (s .time)))
     (λ (o : testOf c s ≡ false). let z = sym (ap (λ x. x .said) (out c s o)) ∙ e in absurd (clash (cc)))
-    (either-given c s)
+    (tested (testOf c s) (given c s))
   where
     by-time : SampleGiven c s → When c (s .time) → samplesOf (congestionCalls .sample c s .left) ≡ take 5 (s ∷ samplesOf c)
     by-time g (fine t) = samples .added c s g t .1 .kept

@@ -35,17 +35,19 @@ sampled c sample = withSamples c (sample ∷ take (mostSamples - 1) (c .samples)
 
 -- ---- the phase
 
--- "T 1 to 60,000,000 microseconds", "IW 1 to 65,535"
+-- the greatest IW
 abbrev pub largestInitial : ℕ
 largestInitial = 65535
 
+-- "T 1 to 60,000,000 microseconds", "IW 1 to 65,535"
 unfoldable pub phaseInRange : ℕ → ℕ → Bool
 phaseInRange rtt initial = within 1 rtt longestRtt && within 1 initial largestInitial
 
--- "max(3T, 1,000,000)": the greatest age at which a sample counts
+-- a sample of up to this age counts, however short the round trip
 abbrev pub leastAge : ℕ
 leastAge = 1000000
 
+-- "max(3T, 1,000,000)": the greatest age at which a sample counts
 abbrev pub longestAge : ℕ → ℕ
 longestAge rtt = max (3 * rtt) leastAge
 
@@ -76,10 +78,11 @@ validated window (some bytes) = leb window (2 * bytes)
 unfoldable pub isValidated : ℕ → ℕ → Connection → Bool
 isValidated rtt time c = validated (c .window) (pipeAck (longestAge rtt) time (samplesOf c))
 
--- "for more than 300,000,000 microseconds since the call that first found it so"
+-- five minutes, in microseconds
 abbrev pub longestPeriod : ℕ
 longestPeriod = 300000000
 
+-- "for more than 300,000,000 microseconds since the call that first found it so"
 unfoldable pub isOver : ℕ → Moment → Bool
 isOver time Absent = false
 isOver time (At start) = ltb (start + longestPeriod) time

@@ -36,6 +36,7 @@ joining = record {
   seven = parts.join-seven;
   swapped = parts.swapped;
   grouped = parts.grouped;
+  grouped-calls = parts.grouped-calls;
   again = parts.join-again;
 }
 

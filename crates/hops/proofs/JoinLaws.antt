@@ -1,6 +1,6 @@
 -- Laws of joining summaries: two parts of a row, in whatever order and grouping, one router more, and what joining replies. Assumes nothing.
 use Prim.Native.Nat.{ℕ, _+_, _≤_, _<_, min}
-use mathlib.Core.Bool.{Bool, true, false, _&&_}
+use mathlib.Core.Bool.{Bool, true, _&&_}
 use mathlib.Core.List.{List, [], _∷_, _++_, List·Permᴰ, List·Permᴰ·nil, List·Permᴰ·cons, List·Permᴰ·swap, List·Permᴰ·trans}
 use mathlib.Core.Logic.{_⊎_, inl, inr, ⊎-elim}
 use mathlib.Core.Path.{_≡_, refl, sym, ap, subst, _∙_}
@@ -8,14 +8,15 @@ use native.Mathlib.Omega.{arith}
 use borrow.Author.Tests.{le-leb, leb-true}
 use lib.Dec.{leb}
 use lib.ListN.{length-append}
-use Rattle.common.proofs.Choice.{by-test, clash, both-true}
-use Rattle.refusals.specs.Reply.{Reply, answer, refuse}
+use Rattle.common.proofs.Choice.{by-test, chosen, either, both-true}
+use Rattle.refusals.specs.Reply.{Reply, answer, refuse, andThen}
 use Rattle.refusals.proofs.ReplyLaws.{answered}
 use Rattle.hops.specs.declared.Router.{Router}
 use Rattle.hops.specs.declared.Router.the-variants.{Knowing, Silent}
 use Rattle.hops.specs.declared.Summary.{Summary}
 use Rattle.hops.specs.Rows.{mostRouters}
-use Rattle.hops.specs.Summaries.{silentOnes, leastCeiling, summaryOf, one, summaryInRange, joined, joinReply}
+use Rattle.hops.specs.Summaries.{silentOnes, leastCeiling, summaryOf, summaryInRange, joined, joinReply}
+use Rattle.hops.specs.Parts.{one}
 use Rattle.hops.specs.Claims.{numbers, Ranged}
 use Rattle.hops.proofs.SummaryLaws.{same-summary, sum-nobody, silent-append, least-append, ranged-tested, ranged-suffices}
 
@@ -97,31 +98,30 @@ module _ (a b : Summary) where
   pub join-seven : (Ranged a × Ranged b × (a .routers + b .routers ≤ 64) → ⊥) → joinReply a b ≡ refuse 7
   join-seven f = by-test (λ (r : Reply Summary). r ≡ refuse 7) (testOf a b) (λ e. absurd (f (test-facts e))) (λ e. refl)
 
+  test-suffices : Ranged a → Ranged b → a .routers + b .routers ≤ 64 → testOf a b ≡ true
+  test-suffices r t h = simp (ranged-suffices a r, ranged-suffices b t, le-leb (a .routers + b .routers) mostRouters h)
+
   pub join-answers : Ranged a → Ranged b → a .routers + b .routers ≤ 64 → joinReply a b ≡ answer (joined a b)
-  join-answers r t h = simp (ranged-suffices a r, ranged-suffices b t, le-leb (a .routers + b .routers) mostRouters h)
+  join-answers r t h = chosen (testOf a b) _ _ (test-suffices r t h)
 
   pub joins : Ranged a → Ranged b → a .routers + b .routers ≤ 64
       → joinReply a b ≡ answer (numbers (a .routers + b .routers) (a .silent + b .silent) (min (a .least) (b .least)))
   unfolding joined
   joins r t h = join-answers r t h
 
-  pub join-again : (s : Summary) → joinReply a b ≡ answer s → Ranged s
+  ranged-joined : Ranged a → Ranged b → a .routers + b .routers ≤ 64 → Ranged (joined a b)
   unfolding joined
+  ranged-joined r t h = record { routers-high = h; silent-high = omega arith; least-high = omega arith }
+
+  pub join-again : (s : Summary) → joinReply a b ≡ answer s → Ranged s
   join-again s e =
       let got = answered (testOf a b) s (joined a b) 7 (sym e) in
       let f = test-facts (got .0) in
-      let x = f .0 in
-      let y = f .1 in
-      let z = f .2 in
-      subst Ranged (sym (got .1)) (record { routers-high = z; silent-high = omega arith; least-high = omega arith })
+      subst Ranged (sym (got .1)) (ranged-joined (f .0) (f .1) (f .2))
 
   -- it either answers or refuses by the ranges
   by-ranges : (Ranged a × Ranged b × (a .routers + b .routers ≤ 64)) ⊎ (Ranged a × Ranged b × (a .routers + b .routers ≤ 64) → ⊥)
-  by-ranges = go (testOf a b) refl
-    where
-      go : (t : Bool) → testOf a b ≡ t → (Ranged a × Ranged b × (a .routers + b .routers ≤ 64)) ⊎ (Ranged a × Ranged b × (a .routers + b .routers ≤ 64) → ⊥)
-      go true e = inl (test-facts e)
-      go false e = inr (λ r. let t : testOf a b ≡ true = simp (ranged-suffices a (r .0), ranged-suffices b (r .1), le-leb (a .routers + b .routers) mostRouters (r .2)) in clash (cc))
+  by-ranges = either (testOf a b) test-facts (λ r. test-suffices (r .0) (r .1) (r .2))
 
 pub swapped : (a b : Summary) → joinReply a b ≡ joinReply b a
 swapped a b =
@@ -130,3 +130,54 @@ swapped a b =
     join-answers a b (r .0) (r .1) (r .2) ∙ ap answer (turned a b) ∙ sym (join-answers b a (r .1) (r .0) (omega (arith, r .2))))
     (λ (f : Ranged a × Ranged b × (a .routers + b .routers ≤ 64) → ⊥). join-seven a b f ∙ sym (join-seven b a (λ r. f (r .1, r .0, omega (arith, r .2)))))
     (by-ranges a b)
+
+-- ---- three parts by two calls
+
+abbrev Three : Summary → Summary → Summary → Type 0
+Three a b c = Ranged a × Ranged b × Ranged c × (a .routers + b .routers + c .routers ≤ 64)
+
+module _ (a b c : Summary) where
+  abbrev twoCalls : Reply Summary
+  twoCalls = andThen (joinReply a b) (λ x. joinReply x c)
+
+  three-answer : Three a b c → twoCalls ≡ answer (joined (joined a b) c)
+  unfolding joined
+  three-answer r =
+      let all : a .routers + b .routers + c .routers ≤ 64 = r .3 in
+      ap (λ (x : Reply Summary). andThen x (λ s. joinReply s c)) (join-answers a b (r .0) (r .1) (omega arith))
+      ∙ join-answers (joined a b) c (ranged-joined a b (r .0) (r .1) (omega arith)) (r .2) all
+
+  three-seven : (Three a b c → ⊥) → twoCalls ≡ refuse 7
+  unfolding joined
+  three-seven f =
+      ⊎-elim
+      (λ (r : Ranged a × Ranged b × (a .routers + b .routers ≤ 64)).
+      ap (λ (x : Reply Summary). andThen x (λ s. joinReply s c)) (join-answers a b (r .0) (r .1) (r .2)) ∙ join-seven (joined a b) c (λ s. f (r .0, r .1, s .1, s .2)))
+      (λ (n : Ranged a × Ranged b × (a .routers + b .routers ≤ 64) → ⊥). ap (λ (x : Reply Summary). andThen x (λ s. joinReply s c)) (join-seven a b n))
+      (by-ranges a b)
+
+  by-three : Three a b c ⊎ (Three a b c → ⊥)
+  unfolding joined
+  by-three =
+      ⊎-elim
+      (λ (r : Ranged a × Ranged b × (a .routers + b .routers ≤ 64)).
+      ⊎-elim
+      (λ (s : Ranged (joined a b) × Ranged c × (joined a b .routers + c .routers ≤ 64)). inl (r .0, r .1, s .1, s .2))
+      (λ (n : Ranged (joined a b) × Ranged c × (joined a b .routers + c .routers ≤ 64) → ⊥). inr (λ t. n (ranged-joined a b (r .0) (r .1) (r .2), t .2, t .3)))
+      (by-ranges (joined a b) c))
+      (λ (n : Ranged a × Ranged b × (a .routers + b .routers ≤ 64) → ⊥). inr (λ t. n (t .0, t .1, omega (arith, t .3))))
+      (by-ranges a b)
+
+-- the second call with its parts the other way round
+turned-call : (a : Summary) (r : Reply Summary) → andThen r (λ y. joinReply y a) ≡ andThen r (λ y. joinReply a y)
+turned-call a (answer s) = swapped s a
+turned-call a (refuse n) = refl
+
+pub grouped-calls : (a b c : Summary) → andThen (joinReply a b) (λ x. joinReply x c) ≡ andThen (joinReply b c) (λ y. joinReply a y)
+grouped-calls a b c =
+    ⊎-elim
+    (λ (r : Three a b c).
+    three-answer a b c r ∙ ap answer (grouped a b c ∙ turned a (joined b c)) ∙ sym (three-answer b c a (r .1, r .2, r .0, omega (arith, r .3))))
+    (λ (f : Three a b c → ⊥). three-seven a b c f ∙ sym (three-seven b c a (λ r. f (r .2, r .0, r .1, omega (arith, r .3)))))
+    (by-three a b c)
+    ∙ turned-call a (joinReply b c)

@@ -11,7 +11,8 @@ use Rattle.rates.specs.Steps.{topCode}
 use Rattle.hops.specs.declared.Router.{Router}
 use Rattle.hops.specs.declared.Summary.{Summary}
 use Rattle.hops.specs.Rows.{mostRouters, frontOf, lengthOf, Hops, noHops, ahead, hopsFrom, rowOf}
-use Rattle.hops.specs.Summaries.{summaryOf, one, joined}
+use Rattle.hops.specs.Summaries.{summaryOf, joined}
+use Rattle.hops.specs.Parts.{one}
 use Rattle.hops.specs.Claims.{Ranged}
 use Rattle.hops.proofs.RowLaws.{front-fits, hops-end, hops-on}
 use Rattle.hops.proofs.JoinLaws.{joined-nobody, joined-one, joined-last, routers-more, ranged-more}

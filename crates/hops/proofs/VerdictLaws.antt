@@ -1,19 +1,19 @@
 -- Laws of a summary's verdict: its ranges, its tests one after the other, and that two calls that judge so judge alike. Assumes nothing.
 use Prim.Native.Nat.{ℕ, _≤_, _<_, min}
 use mathlib.Core.Bool.{Bool, true, false, _&&_}
-use mathlib.Core.Logic.{_⊎_, inl, inr, ⊎-elim}
+use mathlib.Core.Logic.{⊎-elim}
 use mathlib.Core.Path.{_≡_, refl, sym, ap, _∙_}
 use native.Mathlib.Omega.{arith}
 use borrow.Author.Tests.{le-leb, lt-leb, leb-true, lt-ltb, le-ltb, eq-eqb, ne-eqb}
 use lib.Dec.{leb}
 use Rattle.common.specs.Choice.{within}
-use Rattle.common.proofs.Choice.{by-test, clash, chosen, both-true, in-within, not-within, within-low, within-high, le-or-gt}
+use Rattle.common.proofs.Choice.{by-test, chosen, either, both-true, in-within, not-within, within-low, within-high, le-or-gt}
 use Rattle.refusals.specs.Reply.{Reply, answer, refuse}
 use Rattle.rates.specs.Steps.{topCode}
 use Rattle.hops.specs.declared.Summary.{Summary}
 use Rattle.hops.specs.Summaries.{summaryInRange}
 use Rattle.hops.specs.Verdicts.{Verdict, lost, unanswered, notAccepted, accepted, leastOf, verdictOf, verdictInRange, verdictReply}
-use Rattle.hops.specs.Claims.{Given, Judge, Judging}
+use Rattle.hops.specs.Claims.{VerdictGiven, Judge, Judging}
 use Rattle.hops.proofs.SummaryLaws.{ranged-tested, ranged-suffices}
 
 -- ---- ranges
@@ -38,7 +38,7 @@ module _ (ttl code ceiling : ℕ) where
 -- ---- verdicts
 
 module _ (s : Summary) (ttl code ceiling : ℕ) where
-  given-facts : summaryInRange s && verdictInRange ttl code ceiling ≡ true → Given s ttl code ceiling
+  given-facts : summaryInRange s && verdictInRange ttl code ceiling ≡ true → VerdictGiven s ttl code ceiling
   unfolding verdictInRange
   given-facts e =
       let sides = both-true (summaryInRange s) (verdictInRange ttl code ceiling) e in
@@ -53,7 +53,7 @@ module _ (s : Summary) (ttl code ceiling : ℕ) where
         ceiling-high = leb-true ceiling topCode (all .1);
       }
 
-  given-suffices : Given s ttl code ceiling → summaryInRange s && verdictInRange ttl code ceiling ≡ true
+  given-suffices : VerdictGiven s ttl code ceiling → summaryInRange s && verdictInRange ttl code ceiling ≡ true
   unfolding verdictInRange
   given-suffices g =
       simp (
@@ -63,17 +63,10 @@ module _ (s : Summary) (ttl code ceiling : ℕ) where
         le-leb ceiling topCode (g .ceiling-high),
       )
 
-  pub verdict-seven : (Given s ttl code ceiling → ⊥) → verdictReply s ttl code ceiling ≡ refuse 7
+  pub verdict-seven : (VerdictGiven s ttl code ceiling → ⊥) → verdictReply s ttl code ceiling ≡ refuse 7
   verdict-seven f = by-test (λ (r : Reply Verdict). r ≡ refuse 7) (summaryInRange s && verdictInRange ttl code ceiling) (λ e. absurd (f (given-facts e))) (λ e. refl)
 
-  pub either-given : Given s ttl code ceiling ⊎ (Given s ttl code ceiling → ⊥)
-  either-given = go (summaryInRange s && verdictInRange ttl code ceiling) refl
-    where
-      go : (t : Bool) → summaryInRange s && verdictInRange ttl code ceiling ≡ t → Given s ttl code ceiling ⊎ (Given s ttl code ceiling → ⊥)
-      go true e = inl (given-facts e)
-      go false e = inr (λ g. let t = given-suffices g in clash (cc))
-
-  pub verdict-answers : Given s ttl code ceiling → verdictReply s ttl code ceiling ≡ answer (verdictOf s ttl code ceiling)
+  pub verdict-answers : VerdictGiven s ttl code ceiling → verdictReply s ttl code ceiling ≡ answer (verdictOf s ttl code ceiling)
   verdict-answers g = rw (given-suffices g) refl
 
   -- the tests of a verdict, one after the other
@@ -113,7 +106,7 @@ module _ (judge other : Judge) (j : Judging judge) (k : Judging other) (s : Summ
   abbrev Alike : Type 0
   Alike = judge s ttl code ceiling ≡ other s ttl code ceiling
 
-  module _ (g : Given s ttl code ceiling) where
+  module _ (g : VerdictGiven s ttl code ceiling) where
     by-silence : s .routers < ttl → 1 ≤ min (min code (s .least)) ceiling → Alike
     by-silence l r =
         ⊎-elim
@@ -136,6 +129,6 @@ module _ (judge other : Judge) (j : Judging judge) (k : Judging other) (s : Summ
   pub judge-alike : judge s ttl code ceiling ≡ other s ttl code ceiling
   judge-alike =
       ⊎-elim
-      (λ (g : Given s ttl code ceiling). by-life g)
-      (λ (f : Given s ttl code ceiling → ⊥). j .seven s ttl code ceiling f ∙ sym (k .seven s ttl code ceiling f))
-      (either-given s ttl code ceiling)
+      (λ (g : VerdictGiven s ttl code ceiling). by-life g)
+      (λ (f : VerdictGiven s ttl code ceiling → ⊥). j .seven s ttl code ceiling f ∙ sym (k .seven s ttl code ceiling f))
+      (either (summaryInRange s && verdictInRange ttl code ceiling) (given-facts s ttl code ceiling) (given-suffices s ttl code ceiling))

@@ -6,7 +6,7 @@ use mathlib.Core.List.{List, [], _∷_, _++_, List·Permᴰ}
 use mathlib.Core.Path.{_≡_}
 use lib.ListN.{length}
 use Rattle.common.specs.Lists.{Bytes}
-use Rattle.refusals.specs.Reply.{Reply, answer, refuse}
+use Rattle.refusals.specs.Reply.{Reply, answer, refuse, andThen}
 use Rattle.hops.specs.declared.Router.{Router}
 use Rattle.hops.specs.declared.Router.the-variants.{Knowing, Silent}
 use Rattle.hops.specs.declared.Summary.{Summary}
@@ -84,9 +84,10 @@ pub record Joining : Type 0 where
   pub joins : (a b : Summary) → Ranged a → Ranged b → a .routers + b .routers ≤ 64
       → joinReply a b ≡ answer (numbers (a .routers + b .routers) (a .silent + b .silent) (min (a .least) (b .least)))
   pub seven : (a b : Summary) → (Ranged a × Ranged b × (a .routers + b .routers ≤ 64) → ⊥) → joinReply a b ≡ refuse 7
-  -- in whatever order and grouping; what is joined is in range again
+  -- in whatever order and grouping, of summaries and of calls; what is joined is in range again
   pub swapped : (a b : Summary) → joinReply a b ≡ joinReply b a
   pub grouped : (a b c : Summary) → joined (joined a b) c ≡ joined a (joined b c)
+  pub grouped-calls : (a b c : Summary) → andThen (joinReply a b) (λ x. joinReply x c) ≡ andThen (joinReply b c) (λ y. joinReply a y)
   pub again : (a b s : Summary) → joinReply a b ≡ answer s → Ranged s
 
 -- ---- verdicts
@@ -96,7 +97,7 @@ abbrev pub Judge : Type 0
 Judge = Summary → ℕ → ℕ → ℕ → Reply Verdict
 
 -- "starting IP TTL 1 to 255", "a code asked .. 1 to 15", "ceilings 0 to 15"
-pub record Given (s : Summary) (ttl code ceiling : ℕ) : Type 0 where
+pub record VerdictGiven (s : Summary) (ttl code ceiling : ℕ) : Type 0 where
   pub ranged : Ranged s
   pub ttl-low : 1 ≤ ttl
   pub ttl-high : ttl ≤ 255
@@ -107,13 +108,13 @@ pub record Given (s : Summary) (ttl code ceiling : ℕ) : Type 0 where
 -- "in this order: lost when the starting TTL is at most its routers; unanswered when the least of the code asked, its ceiling and the receiver's is 0; 14 when a router is silent;
 -- accepted at that least"
 pub record Judging (judge : Judge) : Type 0 where
-  pub seven : (s : Summary) (ttl code ceiling : ℕ) → (Given s ttl code ceiling → ⊥) → judge s ttl code ceiling ≡ refuse 7
-  pub loses : (s : Summary) (ttl code ceiling : ℕ) → Given s ttl code ceiling → ttl ≤ s .routers → judge s ttl code ceiling ≡ answer lost
-  pub silence : (s : Summary) (ttl code ceiling : ℕ) → Given s ttl code ceiling → s .routers < ttl → min (min code (s .least)) ceiling ≡ 0
+  pub seven : (s : Summary) (ttl code ceiling : ℕ) → (VerdictGiven s ttl code ceiling → ⊥) → judge s ttl code ceiling ≡ refuse 7
+  pub loses : (s : Summary) (ttl code ceiling : ℕ) → VerdictGiven s ttl code ceiling → ttl ≤ s .routers → judge s ttl code ceiling ≡ answer lost
+  pub silence : (s : Summary) (ttl code ceiling : ℕ) → VerdictGiven s ttl code ceiling → s .routers < ttl → min (min code (s .least)) ceiling ≡ 0
       → judge s ttl code ceiling ≡ answer unanswered
-  pub fourteen : (s : Summary) (ttl code ceiling : ℕ) → Given s ttl code ceiling → s .routers < ttl → 1 ≤ min (min code (s .least)) ceiling → 1 ≤ s .silent
+  pub fourteen : (s : Summary) (ttl code ceiling : ℕ) → VerdictGiven s ttl code ceiling → s .routers < ttl → 1 ≤ min (min code (s .least)) ceiling → 1 ≤ s .silent
       → judge s ttl code ceiling ≡ answer (notAccepted 14)
-  pub accepts : (s : Summary) (ttl code ceiling : ℕ) → Given s ttl code ceiling → s .routers < ttl → 1 ≤ min (min code (s .least)) ceiling → s .silent ≡ 0
+  pub accepts : (s : Summary) (ttl code ceiling : ℕ) → VerdictGiven s ttl code ceiling → s .routers < ttl → 1 ≤ min (min code (s .least)) ceiling → s .silent ≡ 0
       → judge s ttl code ceiling ≡ answer (accepted (min (min code (s .least)) ceiling))
 
 -- ours has them, and whatever has them is ours

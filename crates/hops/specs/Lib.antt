@@ -1,5 +1,6 @@
 pub mod Rows
 pub mod Summaries
 pub mod Verdicts
+pub mod Parts
 pub mod Replies
 pub mod Claims

@@ -19,12 +19,18 @@ mostRouters = 64
 abbrev pub knowingKind : ℕ
 knowingKind = 2
 
+abbrev pub knowingLength : ℕ
+knowingLength = 1 + 5
+
 abbrev pub silentKind : ℕ
 silentKind = 3
 
+abbrev pub silentLength : ℕ
+silentLength = 1
+
 unfoldable pub lengthOf : Router → ℕ
-lengthOf (Knowing ceiling fresh) = 1 + 5
-lengthOf Silent = 1
+lengthOf (Knowing ceiling fresh) = knowingLength
+lengthOf Silent = silentLength
 
 -- "a 32-bit big-endian word", by its bytes; the nonce is its upper 30 bits
 abbrev pub wordFrom : ℕ → ℕ → ℕ → ℕ → ℕ
@@ -35,7 +41,7 @@ nonceAt place bytes = wordFrom (getD bytes place 0) (getD bytes (place + 1) 0) (
 
 -- a whole record of kind 2 whose ceiling is "at most 15"
 unfoldable pub isKnowing : List ℕ → Bool
-isKnowing bytes = eqb (getD bytes 0 0) knowingKind && leb 6 (length bytes) && leb (getD bytes 1 0) topCode
+isKnowing bytes = eqb (getD bytes 0 0) knowingKind && leb knowingLength (length bytes) && leb (getD bytes 1 0) topCode
 
 -- the router whose record stands in front of some bytes, if a good one does; where there are no bytes, the kind reads as 0
 unfoldable pub frontOf : List ℕ → Option Router

@@ -27,10 +27,6 @@ leastCeiling (Silent ∷ rest) = leastCeiling rest
 unfoldable pub summaryOf : List Router → Summary
 summaryOf routers = record { routers = length routers; silent = silentOnes routers; least = leastCeiling routers }
 
--- the summary of one router
-abbrev pub one : Router → Summary
-one router = summaryOf (router ∷ [])
-
 -- the summary of a row as bytes; 7 where it is none
 abbrev pub summaryReply : ℕ → List ℕ → Reply Summary
 summaryReply limit bytes = andThen (rowOf limit bytes) (λ routers. answer (summaryOf routers))

@@ -6,8 +6,9 @@ ghost use lib.ListN.{length, drop};
 ghost use Rattle.rates.specs.Steps.{topCode};
 ghost use Rattle.options.specs.Wire.{nonceLimit};
 ghost use Rattle.hops.specs.Rows.{mostRouters, wordFrom, frontOf, lengthOf, hopsFrom};
-ghost use Rattle.hops.specs.Summaries.{one, joined, summaryOf, summaryInRange, summaryReply, joinReply};
+ghost use Rattle.hops.specs.Summaries.{joined, summaryOf, summaryInRange, summaryReply, joinReply};
 ghost use Rattle.hops.specs.Verdicts.{verdictInRange, verdictOf, verdictReply};
+ghost use Rattle.hops.specs.Parts.{one};
 ghost use Rattle.hops.specs.Replies.{frontTold, summaryTold, verdictTold, verdictAnswerTold};
 use rates::TOP_CODE;
 use rates::lesser;
@@ -32,7 +33,7 @@ pub enum Router {
     Silent,
 }
 
-// What stands at a place of a row: a whole record of a router, or none.
+// What stands at a place of a row: a router's whole record with its ceiling in range, or none.
 pub enum Front {
     Of(Router),
     Nothing,
@@ -88,7 +89,7 @@ fn wide(byte: u8) -> u32
     byte as u32
 }
 
-// The router whose record stands at a place of a row, if a whole one does.
+// The router whose record stands at a place of a row, if a whole record with its ceiling in range does.
 pub fn router_at(row: &[u8], at: usize) -> Front
     ensures { λ r. ⌜ frontTold r ≡ frontOf (drop at (now (row .entry))) ⌝ }
 {

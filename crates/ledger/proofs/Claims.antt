@@ -10,7 +10,7 @@ use native.Mathlib.Omega.{arith}
 use borrow.Author.Tests.{eq-eqb, ne-eqb}
 use lib.ListN.{length, getD, set, length-replicate}
 use Rattle.common.specs.Choice.{pick, within}
-use Rattle.common.proofs.Choice.{chosen, within-low, within-high, in-within}
+use Rattle.common.proofs.Choice.{chosen, untrue, within-low, within-high, in-within}
 use Rattle.common.proofs.Lists.{zeros-hold}
 use Rattle.refusals.specs.Reply.{Reply, answer, refuse, leaves, done, andThen}
 use Rattle.rates.specs.Steps.{topCode, rateOf, greatestUpTo}
@@ -71,11 +71,7 @@ moving = record {
 -- ---- which refusal is given
 
 out-of-range : (slots allowance : ℕ) → (InRange slots allowance → ⊥) → linkInRange slots allowance ≡ false
-out-of-range slots allowance out = go (linkInRange slots allowance) refl
-  where
-    go : (t : Bool) → linkInRange slots allowance ≡ t → linkInRange slots allowance ≡ false
-    go true e = absurd (out (ranged slots allowance e))
-    go false e = e
+out-of-range slots allowance out = untrue (linkInRange slots allowance) (λ e. out (ranged slots allowance e))
 
 move-tested : (link : Link) (tick : ℕ) → Tested (InRange (length (link .row)) (link .ledger .allowance)) link tick (moveReply link tick)
 move-tested link tick = record {

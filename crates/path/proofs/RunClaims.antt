@@ -1,6 +1,6 @@
 -- The claims on the call of a run: which refusal is given, that there is no other such call, and what can arise of a run that started. Assumes nothing.
 use Prim.Native.Nat.{ℕ, _≤_, _<_, min}
-use mathlib.Core.Bool.{Bool, true, false, _&&_}
+use mathlib.Core.Bool.{true, false, _&&_}
 use mathlib.Core.List.{List, [], _∷_, List·Permᴰ}
 use mathlib.Core.Logic.{_⊎_, inl, inr, ⊎-elim}
 use mathlib.Core.Option.{Option, none, some}
@@ -10,7 +10,7 @@ use borrow.Author.Tests.{le-leb, leb-true}
 use lib.Dec.{leb, eqb}
 use lib.ListN.{length}
 use Rattle.common.specs.Lists.{Bytes}
-use Rattle.common.proofs.Choice.{clash, both-true, in-within, within-low, within-high, le-or-gt}
+use Rattle.common.proofs.Choice.{clash, untrue, either, both-true, in-within, within-low, within-high, le-or-gt}
 use Rattle.refusals.specs.Reply.{Reply, answer, refuse, andThen, Outcome, refusing, answering}
 use Rattle.refusals.proofs.ReplyLaws.{refused, same-outcome}
 use Rattle.rates.specs.Steps.{topCode}
@@ -90,21 +90,10 @@ module _ (c : Connection) (ceiling : ℕ) (t : Transport) where
 
   -- out of range, by the test
   out-of : (InRanges c ceiling t → ⊥) → runInRange c ceiling t ≡ false
-  out-of n = go (runInRange c ceiling t) refl
-    where
-      go : (b : Bool) → runInRange c ceiling t ≡ b → runInRange c ceiling t ≡ false
-      go true e = absurd (n (ranges-of e))
-      go false e = e
+  out-of n = untrue (runInRange c ceiling t) (λ e. n (ranges-of e))
 
   either-ranges : InRanges c ceiling t ⊎ (InRanges c ceiling t → ⊥)
-  either-ranges = go (runInRange c ceiling t) refl
-    where
-      both : (b : Bool) → b ≡ true → b ≡ false → ⊥
-      both b x y = clash (cc)
-
-      go : (b : Bool) → runInRange c ceiling t ≡ b → InRanges c ceiling t ⊎ (InRanges c ceiling t → ⊥)
-      go true e = inl (ranges-of e)
-      go false e = inr (λ g. both (runInRange c ceiling t) (in-ranges g) e)
+  either-ranges = either (runInRange c ceiling t) ranges-of in-ranges
 
 -- ---- which refusal is given
 

@@ -10,7 +10,7 @@ use lib.Dec.{leb, eqb}
 use borrow.Author.Tests.{le-leb, eq-eqb, leb-true, eqb-true, eqb-false}
 use lib.ListN.{length, getD}
 use Rattle.common.specs.Lists.{Bytes}
-use Rattle.common.proofs.Choice.{clash, chosen, both-true, le-or-gt}
+use Rattle.common.proofs.Choice.{clash, chosen, untrue, either, both-true, le-or-gt}
 use Rattle.refusals.specs.Reply.{Reply, answer, refuse, leaves, andThen}
 use Rattle.refusals.proofs.ReplyLaws.{same-answer, passed, through}
 use Rattle.rates.specs.Steps.{topCode}
@@ -43,18 +43,10 @@ given-ok ceiling room e =
 
 -- the numbers are in their ranges, or they are not
 either-given : (ceiling room : ℕ) → Given ceiling room ⊎ (Given ceiling room → ⊥)
-either-given ceiling room = go (receiverInRange ceiling room) refl
-  where
-    go : (t : Bool) → receiverInRange ceiling room ≡ t → Given ceiling room ⊎ (Given ceiling room → ⊥)
-    go true e = inl (given-ok ceiling room e)
-    go false e = inr (λ g. clash (let x = sym e ∙ ok-given ceiling room g in cc))
+either-given ceiling room = either (receiverInRange ceiling room) (given-ok ceiling room) (ok-given ceiling room)
 
 not-given : (ceiling room : ℕ) → (Given ceiling room → ⊥) → receiverInRange ceiling room ≡ false
-not-given ceiling room n = go (receiverInRange ceiling room) refl
-  where
-    go : (t : Bool) → receiverInRange ceiling room ≡ t → t ≡ false
-    go true e = absurd (n (given-ok ceiling room e))
-    go false e = refl
+not-given ceiling room n = untrue (receiverInRange ceiling room) (λ e. n (given-ok ceiling room e))
 
 -- ---- what is reported
 

@@ -1,6 +1,6 @@
 -- Laws of a packet that a router replies with: which refusal is given, what an accepted call leaves of the packet, and one hop. Assumes nothing.
 use Prim.Native.Nat.{ℕ, _+_, _-_, _*_, _%_, _≤_, _<_, min}
-use mathlib.Core.Bool.{Bool, true, false}
+use mathlib.Core.Bool.{true, false}
 use mathlib.Core.List.{List}
 use mathlib.Core.Logic.{inl}
 use mathlib.Core.Option.{Option, none, some}
@@ -9,7 +9,7 @@ use native.Mathlib.Omega.{arith}
 use borrow.Author.Tests.{le-leb, lt-leb}
 use lib.ListN.{getD, set}
 use Rattle.common.specs.Lists.{Bytes}
-use Rattle.common.proofs.Choice.{chosen}
+use Rattle.common.proofs.Choice.{chosen, untrue}
 use Rattle.refusals.specs.Reply.{Reply, answer, refuse, andThen}
 use Rattle.refusals.proofs.ReplyLaws.{same-answer, through}
 use Rattle.options.specs.declared.request.Request.{Request}
@@ -44,11 +44,7 @@ pub given-ok : (ceiling fresh : ℕ) → routerInRange ceiling fresh ≡ true �
 given-ok ceiling fresh e = let i = in-range ceiling fresh e in record { ceiling-high = i .ceiling-fits; fresh-high = i .fresh-fits }
 
 pub not-given : (ceiling fresh : ℕ) → (Given ceiling fresh → ⊥) → routerInRange ceiling fresh ≡ false
-not-given ceiling fresh n = go (routerInRange ceiling fresh) refl
-  where
-    go : (t : Bool) → routerInRange ceiling fresh ≡ t → t ≡ false
-    go true e = absurd (n (given-ok ceiling fresh e))
-    go false e = refl
+not-given ceiling fresh n = untrue (routerInRange ceiling fresh) (λ e. n (given-ok ceiling fresh e))
 
 -- ---- what a router replies, by the view
 

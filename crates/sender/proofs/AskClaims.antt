@@ -2,13 +2,13 @@
 use Prim.Native.Nat.{ℕ, _+_, _≤_, _<_}
 use mathlib.Core.Bool.{Bool, true, false, _&&_}
 use mathlib.Core.List.{List}
-use mathlib.Core.Logic.{_⊎_, inl, inr, ⊎-elim}
+use mathlib.Core.Logic.{⊎-elim}
 use mathlib.Core.Path.{_≡_, refl, sym, ap, ap₂, subst, _∙_}
 use native.Mathlib.Omega.{arith}
 use borrow.Author.Tests.{le-leb, lt-ltb, le-ltb, eq-eqb, ltb-false}
 use lib.Dec.{lit<}
 use lib.ListN.{length}
-use Rattle.common.proofs.Choice.{clash, both-true, in-within, le-or-gt}
+use Rattle.common.proofs.Choice.{clash, not-both, untrue, tested, both-true, in-within, le-or-gt}
 use Rattle.refusals.specs.Reply.{Reply, answer, refuse, leaves, done, outcomeOf, refusing}
 use Rattle.refusals.proofs.ReplyLaws.{answered, passed, let-through, same-outcome}
 use Rattle.rates.specs.Steps.{topCode}
@@ -48,11 +48,15 @@ module _ (c : Connection) (w : Wish) (buffer : List ℕ) where
         eq-eqb (length buffer) optionLength (g .room-is),
       )
 
-  given : inRange c ≡ true → askInRange (w .code) (w .ttl) (w .nonce) (w .rtt) (length buffer) ≡ true → AskGiven c w buffer
-  given e f =
-      let a = ask-facts (w .code) (w .ttl) (w .nonce) (w .rtt) (length buffer) f in
+  passes : AskGiven c w buffer → testOf c w buffer ≡ true
+  passes g = simp (ranges .suffices c (g .record-in), numbers-ok g)
+
+  given : testOf c w buffer ≡ true → AskGiven c w buffer
+  given e =
+      let b = both-true (inRange c) (askInRange (w .code) (w .ttl) (w .nonce) (w .rtt) (length buffer)) e in
+      let a = ask-facts (w .code) (w .ttl) (w .nonce) (w .rtt) (length buffer) (b .1) in
       record {
-        record-in = ranges .tested c e;
+        record-in = ranges .tested c (b .0);
         code-low = a .code-low;
         code-high = a .code-high;
         ttl-low = a .ttl-low;
@@ -63,13 +67,6 @@ module _ (c : Connection) (w : Wish) (buffer : List ℕ) where
         room-is = a .room-is;
       }
 
-  either-given : AskGiven c w buffer ⊎ (testOf c w buffer ≡ false)
-  either-given = go (testOf c w buffer) refl
-    where
-      go : (t : Bool) → testOf c w buffer ≡ t → AskGiven c w buffer ⊎ (testOf c w buffer ≡ false)
-      go true e = let b = both-true (inRange c) _ e in inl (given (b .0) (b .1))
-      go false e = inr e
-
   -- ---- what ours says
 
   by-reply : (n : ℕ) → refuse n ≡ askReply c w buffer → senderCalls .ask c w buffer ≡ refusing n (sending c buffer)
@@ -79,7 +76,7 @@ module _ (c : Connection) (w : Wish) (buffer : List ℕ) where
   out e = by-reply 7 (simp e)
 
   ask-seven : (AskGiven c w buffer → ⊥) → senderCalls .ask c w buffer ≡ refusing 7 (sending c buffer)
-  ask-seven n = ⊎-elim (λ (g : AskGiven c w buffer). absurd (n g)) out either-given
+  ask-seven n = out (untrue (testOf c w buffer) (λ e. n (given e)))
 
 before-at : (time last : ℕ) (m : Moment) → m ≡ At last → time < last → isBefore time m ≡ true
 unfolding isBefore
@@ -228,11 +225,8 @@ module _ (s : Sender) (a : Asks s) (c : Connection) (w : Wish) (buffer : List �
   ask-only =
       ⊎-elim
       (λ (g : AskGiven c w buffer). by-time g (c .«last_request») refl)
-      (λ (e : testOf c w buffer ≡ false). a .seven c w buffer (λ g. clash (not-both e g)) ∙ sym (out c w buffer e))
-      (either-given c w buffer)
-    where
-      not-both : testOf c w buffer ≡ false → AskGiven c w buffer → _≡_ {A = ℕ} 0 1
-      not-both e g = let t : testOf c w buffer ≡ true = simp (ok c w buffer g, fit c w buffer g) in cc
+      (λ (e : testOf c w buffer ≡ false). a .seven c w buffer (λ g. not-both (testOf c w buffer) (passes c w buffer g) e) ∙ sym (out c w buffer e))
+      (tested (testOf c w buffer) (given c w buffer))
 
 -- ---- a fresh record
 
@@ -269,8 +263,7 @@ sentOnly c w buffer byte e = by (askReply c w buffer) refl e
         let late = let-through (isBefore (w .time) (c .«last_request»)) s _ 9 (all .1) in
         let free = let-through (isBusy (c .state)) s _ 10 (late .1) in
         let waited = let-through (isSoon (w .time) (w .rtt) (c .«last_request»)) s _ 10 (free .1) in
-        let b = both-true (inRange c) (askInRange (w .code) (w .ttl) (w .nonce) (w .rtt) (length buffer)) (all .0) in
-        let g = given c w buffer (b .0) (b .1) in
+        let g = given c w buffer (all .0) in
         let i = idle-if (c .state) (free .0) in
         let h = waited-if (w .time) (w .rtt) (c .«last_request») (waited .0) in
         (g, i, h, said-sent c w buffer g byte i h .1)

@@ -27,11 +27,11 @@ use Rattle.connection.specs.declared.State.the-variants.{Idle, Asked, Quick}
 use Rattle.connection.specs.declared.Moment.the-variants.{Absent, At}
 use Rattle.connection.specs.declared.Mark.the-variants as Marks
 use Rattle.connection.specs.declared.Connection.{Connection}
-use Rattle.connection.specs.Records.{mostBytes, stateInRange, bytesInRange, isBefore, inRange, freshWith, withState, withWindow}
+use Rattle.connection.specs.Records.{mostBytes, stateInRange, bytesInRange, isBefore, inRange, freshWith, withState}
 use Rattle.connection.specs.Claims.{StateInRange, InRange}
 use Rattle.connection.proofs.Claims.{ranges}
 use Rattle.connection.proofs.PartLaws.{state-part, window-part, request-part}
-use Rattle.sender.specs.Calls.{Wish, wish, Transport, transport, Sending, sending, asked, askInRange, isBusy, isSoon, askReply, whileAsked, whileQuick, judged, taken, responseReply, granted, afterResponse, acknowledgedReply, lossReply, giveUpReply, senderCalls}
+use Rattle.sender.specs.Calls.{Wish, wish, Transport, transport, Sending, sending, asked, askInRange, isBusy, isSoon, askReply, whileAsked, whileQuick, judged, taken, responseReply, granted, afterResponse, backTo, acknowledgedReply, lossReply, giveUpReply, senderCalls}
 use Rattle.sender.specs.Claims.{Ours, SenderOnly, Sent, Asks, Takes, StaysInRange, Unchanged, Windows, askingBy, takingBy, ShutOut}
 use Rattle.sender.proofs.CallLaws.{ask-facts}
 use Rattle.sender.proofs.CallLaws as laws
@@ -96,7 +96,7 @@ module _ (c : Connection) (response : List ℕ) (t : Transport) where
       granted-stays c (windowBytes rate (t .rtt) (t .mss) (t .headers)) i (omega arith)
 
 -- idle again, with a window that lies between 1 and the one it had
-back-stays : (c : Connection) (n : ℕ) → InRange c → 1 ≤ n → InRange (withWindow (withState c Idle) (min (c .window) n))
+back-stays : (c : Connection) (n : ℕ) → InRange c → 1 ≤ n → InRange (backTo c n)
 back-stays c n i l =
     let low = i .window-low in
     let high = i .window-high in
@@ -104,7 +104,7 @@ back-stays c n i l =
 
 module _ (c : Connection) (i : InRange c) where
   quick-stays : (next : Before → ℕ) → ((b : Before) → 1 ≤ b .window → 1 ≤ next b) → (st : State) → StateInRange st
-      → (d : Connection) → whileQuick st (λ before. answer (withWindow (withState c Idle) (min (c .window) (next before)))) ≡ answer d → InRange d
+      → (d : Connection) → whileQuick st (λ before. answer (backTo c (next before))) ≡ answer d → InRange d
   quick-stays next low Idle s d e = absurd (clash (cc))
   quick-stays next low (Asked q) s d e = absurd (clash (cc))
   quick-stays next low (Quick b) s d e = subst InRange (same-answer e) (back-stays c (next b) i (low b (s .0)))
@@ -185,7 +185,7 @@ module _ (c : Connection) where
   said-window t (answer rate) = granted-window (windowBytes rate (t .rtt) (t .mss) (t .headers))
   said-window t (refuse n) = by-test (λ (d : Connection). c .window ≤ d .window) (within 13 n 15) (λ e. le-refl (c .window)) (λ e. le-refl (c .window))
 
-  quick-window : (next : Before → ℕ) (st : State) (d : Connection) → whileQuick st (λ before. answer (withWindow (withState c Idle) (min (c .window) (next before)))) ≡ answer d
+  quick-window : (next : Before → ℕ) (st : State) (d : Connection) → whileQuick st (λ before. answer (backTo c (next before))) ≡ answer d
       → d .window ≤ c .window
   quick-window next Idle d e = absurd (clash (cc))
   quick-window next (Asked q) d e = absurd (clash (cc))

@@ -1,10 +1,10 @@
 -- The claims on first acknowledgement, loss and giving up. Assumes nothing.
 use Prim.Native.Nat.{ℕ, _≤_, _<_}
-use mathlib.Core.Bool.{Bool, true, false}
-use mathlib.Core.Logic.{_⊎_, inl, inr, ⊎-elim}
+use mathlib.Core.Bool.{false}
+use mathlib.Core.Logic.{_⊎_, ⊎-elim}
 use mathlib.Core.Path.{_≡_, refl, sym, ap, _∙_}
 use native.Mathlib.Omega.{arith}
-use Rattle.common.proofs.Choice.{clash, le-or-gt}
+use Rattle.common.proofs.Choice.{not-both, untrue, tested, le-or-gt}
 use Rattle.refusals.specs.Reply.{Reply, refuse, outcomeOf, refusing}
 use Rattle.connection.specs.declared.State.{State}
 use Rattle.connection.specs.declared.State.the-variants.{Idle, Asked, Quick}
@@ -18,17 +18,13 @@ use Rattle.sender.proofs.CallLaws.{ack-out, ack-flight-out, ack-in, los
 
 -- a record is in range, or the test says that it is not
 either-in : (c : Connection) → InRange c ⊎ (inRange c ≡ false)
-either-in c = go (inRange c) refl
-  where
-    go : (b : Bool) → inRange c ≡ b → InRange c ⊎ (inRange c ≡ false)
-    go true e = inl (ranges .tested c e)
-    go false e = inr e
+either-in c = tested (inRange c) (ranges .tested c)
 
 not-in : (c : Connection) → (InRange c → ⊥) → inRange c ≡ false
-not-in c n = ⊎-elim (λ (i : InRange c). absurd (n i)) (λ (e : inRange c ≡ false). e) (either-in c)
+not-in c n = untrue (inRange c) (λ e. n (ranges .tested c e))
 
 out-not-in : (c : Connection) → inRange c ≡ false → InRange c → ⊥
-out-not-in c e i = let t = ranges .suffices c i in clash (cc)
+out-not-in c e i = not-both (inRange c) (ranges .suffices c i) e
 
 module _ (c : Connection) where
   by-loss : (x : Reply Connection) → x ≡ lossReply c → senderCalls .lost c ≡ outcomeOf c x

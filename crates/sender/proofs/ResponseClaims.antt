@@ -8,7 +8,7 @@ use borrow.Author.Tests.{eq-eqb, ne-eqb, eqb-true, eqb-false}
 use lib.Dec.{eqb}
 use lib.ListN.{length, getD}
 use Rattle.common.specs.Choice.{within}
-use Rattle.common.proofs.Choice.{clash, chosen, both-true, within-low, within-high, in-within, not-within, le-or-gt}
+use Rattle.common.proofs.Choice.{clash, chosen, not-both, untrue, tested, both-true, within-low, within-high, in-within, not-within, le-or-gt}
 use Rattle.refusals.specs.Reply.{Reply, answer, refuse, andThen, refusing}
 use Rattle.refusals.proofs.ReplyLaws.{same-answer, passed, through}
 use Rattle.rates.specs.Window.{longestRtt, largestSegment, leastHeaders, mostHeaders, transportInRange, windowSegments, windowBytes}
@@ -62,13 +62,6 @@ module _ (c : Connection) (response : List ℕ) (t : Transport) where
         room-is = eqb-true (length response) optionLength (a .1);
       }
 
-  either-given : ResponseGiven c response t ⊎ (testOf c response t ≡ false)
-  either-given = go (testOf c response t) refl
-    where
-      go : (b : Bool) → testOf c response t ≡ b → ResponseGiven c response t ⊎ (testOf c response t ≡ false)
-      go true e = inl (given e)
-      go false e = inr e
-
   -- ---- what ours says, and leaves by that
 
   by-reply : (x : Reply ℕ) → x ≡ responseReply c response t → senderCalls .takeResponse c response t ≡ record { said = x; left = afterResponse c t x }
@@ -79,7 +72,7 @@ module _ (c : Connection) (response : List ℕ) (t : Transport) where
   out e = by-reply (refuse 7) (simp e)
 
   respond-seven : (ResponseGiven c response t → ⊥) → senderCalls .takeResponse c response t ≡ refusing 7 c
-  respond-seven n = ⊎-elim (λ (g : ResponseGiven c response t). absurd (n g)) out either-given
+  respond-seven n = out (untrue (testOf c response t) (λ e. n (given e)))
 
   module _ (g : ResponseGiven c response t) where
     by-state : (s : State) → c .state ≡ s → whileAsked s (λ request. taken request response) ≡ responseReply c response t
@@ -225,11 +218,8 @@ module _ (s : Sender) (a : Takes s) (c : Connection) (response : List ℕ) (t : 
   respond-only =
       ⊎-elim
       (λ (g : ResponseGiven c response t). by-states g (c .state) refl)
-      (λ (e : testOf c response t ≡ false). a .seven c response t (λ g. clash (not-both e g)) ∙ sym (out c response t e))
-      (either-given c response t)
-    where
-      not-both : testOf c response t ≡ false → ResponseGiven c response t → _≡_ {A = ℕ} 0 1
-      not-both e g = let p = passes c response t g in cc
+      (λ (e : testOf c response t ≡ false). a .seven c response t (λ g. not-both (testOf c response t) (passes c response t g) e) ∙ sym (out c response t e))
+      (tested (testOf c response t) (given c response t))
 
 -- ---- what was accepted had fit
 

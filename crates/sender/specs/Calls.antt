@@ -130,16 +130,20 @@ afterResponse c t (refuse n) = pick (within 13 n 15) (withState c Idle) c
 
 -- ---- what ends a request, and the quick state
 
+-- "the window becomes the lesser of itself and" another; "idle"
+abbrev pub backTo : Connection → ℕ → Connection
+backTo c window = withWindow (withState c Idle) (min (c .window) window)
+
 -- "First acknowledgement while quick (fixed here): the window becomes the lesser of itself and max(flight, window before); idle."; "flight .. at most 2^40"
 abbrev pub acknowledgedReply : Connection → ℕ → Reply Connection
 acknowledgedReply c flight =
     pick (inRange c && leb flight mostBytes)
-    (whileQuick (c .state) (λ before. answer (withWindow (withState c Idle) (min (c .window) (max flight (before .window))))))
+    (whileQuick (c .state) (λ before. answer (backTo c (max flight (before .window)))))
     (refuse 7)
 
 -- "Loss while quick: the lesser of itself and window before; idle."
 abbrev pub lossReply : Connection → Reply Connection
-lossReply c = pick (inRange c) (whileQuick (c .state) (λ before. answer (withWindow (withState c Idle) (min (c .window) (before .window))))) (refuse 7)
+lossReply c = pick (inRange c) (whileQuick (c .state) (λ before. answer (backTo c (before .window)))) (refuse 7)
 
 -- "Giving up while asked: idle."
 abbrev pub giveUpReply : Connection → Reply Connection

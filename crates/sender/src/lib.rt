@@ -9,9 +9,7 @@ ghost use Rattle.rates.specs.Steps.{topCode};
 ghost use Rattle.rates.specs.Window.{transportInRange, windowBytes};
 ghost use Rattle.options.specs.Wire.{optionLength, nonceLimit};
 ghost use Rattle.common.specs.Choice.{within};
-ghost use Rattle.connection.specs.Records.{withState, withWindow};
-ghost use Rattle.connection.specs.declared.State.the-variants.{Idle};
-ghost use Rattle.sender.specs.Calls.{wish, transport, askInRange, isBusy, isSoon, asked, judged, taken, granted, afterResponse, sending, senderCalls};
+ghost use Rattle.sender.specs.Calls.{wish, transport, askInRange, isBusy, isSoon, asked, judged, taken, granted, afterResponse, backTo, sending, senderCalls};
 ghost use Rattle.sender.specs.Replies.{askTold, acceptedTold, judgementTold, endTold};
 use connection::Before;
 use connection::Connection;
@@ -345,7 +343,7 @@ pub fn take_response(
 
 // The record idle again, with a window that is not above the one it had.
 fn back(connection: Connection, window: u64) -> Connection
-    ensures { λ r. ⌜ r ≡ withWindow (withState connection Idle) (Prim.Native.Nat.min (connection .window) window) ⌝ }
+    ensures { λ r. ⌜ r ≡ backTo connection window ⌝ }
 {
     let mut idle = with_state(connection, State::Idle);
     idle.window = lesser(connection.window, window);

@@ -1,0 +1,42 @@
+-- `cases_path::inputs::put_often` ends after the last time. Assumes nothing.
+use Prim.Native.Nat.{_≤_, _-_}
+use borrow.Author.Needs.{needs}
+use Rattle.cases_path.proofs.inputs.put_often.Statement.{statement}
+use Rattle.cases_path.proofs.inputs.put_often.Tie as tie
+
+abbrev Inv-loop : tie.InvT-loop
+Inv-loop room₀ at part times end₀ i₀ room end i = i ≤ times
+
+abbrev μ-loop : tie.MeasureT-loop
+μ-loop room₀ at part times end₀ i₀ room end i = times - i
+
+loop-holds : tie.Need-loop-holds Inv-loop μ-loop
+loop-holds c = search needs
+
+put-requires : tie.Need-put-requires Inv-loop μ-loop
+put-requires c κs = search needs
+
+add-i : tie.Need-add-i Inv-loop μ-loop
+add-i c = search needs
+
+loop-less : tie.Need-loop-less Inv-loop μ-loop
+loop-less c = search needs
+
+loop-again : tie.Need-loop-again Inv-loop μ-loop
+loop-again c = search needs
+
+returns : tie.Need-returns Inv-loop μ-loop
+returns c = search needs
+
+pub put-often-spec : {M : Type 1} → statement M
+put-often-spec =
+    tie.close
+    (tie.spec
+    Inv-loop
+    μ-loop
+    loop-holds
+    put-requires
+    add-i
+    loop-less
+    loop-again
+    returns)
