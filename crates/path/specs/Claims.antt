@@ -147,7 +147,7 @@ pub record Demand3 (calls : Calls) : Type 0 where
   -- "a sender asking for step 1 to 15 accepts exactly when .. The rate is then the least of the request and all ceilings."
   pub accepting : Accepting calls
   pub cutting : Cutting calls
-  -- "So does every order of the same routers", each with its own nonce; records, packets, T, MSS and H, starting QS TTLs and nonces may differ too: they do not matter
+  -- "So does every order of the same routers", each with its own nonce; records, packets, T, MSS and H, starting QS TTLs and the sender's nonces may differ too: they do not matter
   pub order : (g h : Setting) → Demanded calls g → Demanded calls h → List·Permᴰ (g .routers) (h .routers) → g .wish .ttl ≡ h .wish .ttl → g .wish .code ≡ h .wish .code
       → g .ceiling ≡ h .ceiling → verdictBy calls g ≡ verdictBy calls h
   -- "lost (a router gave 6)": nothing else ends a travel, however long the path
@@ -252,7 +252,7 @@ CallLaw = OnBytes (runCall 64)
 
 -- ---- paths of which demand 3 is false
 
--- ours with another asking, another travel, another receiver, and another response
+-- ours with another asking, another travel, and another response
 abbrev pub asking : (Connection → Wish → List ℕ → Outcome (Unit {0}) Sending) → Calls
 asking ask = record { ask = ask; travel = pathCalls .travel; receive = pathCalls .receive; takeResponse = pathCalls .takeResponse }
 

@@ -59,7 +59,7 @@ unfoldable pub lastDigits : ℕ → ℕ → List ℕ
 lastDigits zero n = []
 lastDigits (suc k) n = pick (ltb n 10) ((48 + n) ∷ []) (lastDigits k (n / 10) ++ ((48 + n % 10) ∷ []))
 
--- no number of a line has more than four digits
+-- with a limit of at most 1664 routers no number of a line has more than four digits
 abbrev pub decimal : ℕ → List ℕ
 decimal n = lastDigits 4 n
 
