@@ -9,13 +9,17 @@ mod kinds;
 mod ledgers;
 mod model;
 mod packets;
+mod report;
 mod runs;
+mod yard;
 
-use calls::{Memory, Seen, Spot};
+use calls::{Memory, Seen};
 use ledgers::Link;
 use model::{answer, Answer, Call, Lent};
 use packets::{Family, Rng, FAMILIES};
+use report::{hex, Report};
 use std::collections::HashMap;
+use yard::Spot;
 
 const SEED: u64 = 0x5153_4741_5445_0005;
 const PACKETS_PER_FAMILY: usize = 50_000;
@@ -25,34 +29,11 @@ const SHOWN_MISMATCHES: usize = 10;
 /// The five functions, in the order of `five_calls`.
 const FUNCTIONS: [&str; 5] = ["router", "router with a ledger", "silent router", "receiver", "marking"];
 
-/// Tests passed and failed.
-pub struct Report {
-    passed: u64,
-    failed: u64,
-}
-
-impl Report {
-    pub fn test(&mut self, name: &str, holds: bool) {
-        println!("{} {name}", if holds { "ok    " } else { "FAILED" });
-        if holds {
-            self.passed += 1;
-        } else {
-            self.failed += 1;
-        }
-    }
-}
-
 /// Compares, shows the first mismatches and counts kinds.
 struct Comparison {
     memory: Memory,
     shown: usize,
     counts: HashMap<(usize, &'static str), u64>,
-}
-
-pub fn hex(bytes: &[u8]) -> String {
-    let shown: Vec<String> = bytes.iter().take(96).map(|byte| format!("{byte:02X}")).collect();
-    let more = if bytes.len() > 96 { format!(" .. ({} bytes)", bytes.len()) } else { String::new() };
-    shown.join(" ") + &more
 }
 
 impl Comparison {
@@ -228,11 +209,10 @@ fn require_counts(report: &mut Report, counts: &HashMap<(usize, &'static str), u
 }
 
 fn main() {
-    let mut report = Report { passed: 0, failed: 0 };
+    let mut report = Report::new();
     hand::cases(&mut report);
     runs::allowance(&mut report);
     let all = compare_families(&mut report);
     require_counts(&mut report, &all.counts);
-    println!("{} passed, {} failed", report.passed, report.failed);
-    std::process::exit(if report.failed == 0 && report.passed > 0 { 0 } else { 1 });
+    report.finish();
 }

@@ -1,17 +1,14 @@
 //! Cases worked out by hand: document 01's packet, its neighbours, and the text of the C header.
 
-use crate::calls::{Memory, Spot, PROTOTYPES};
+use crate::calls::{Memory, PROTOTYPES};
 use crate::model::{Call, Lent};
-use crate::{hex, Report};
+use crate::report::{bytes, header_text, hex, Report};
+use crate::yard::Spot;
 
 /// Document 01's packet: IP TTL 64, a request for code 5 with QS TTL 128 and nonce 0.
 const PACKET: &str = "47 00 00 1C 00 00 00 00 40 06 46 52 0A 00 00 01 0A 00 00 02 19 08 05 80 00 00 00 00";
 const ALL_ONES: u32 = (1 << 30) - 1;
 const HEADER: &str = include_str!("../include/quickstart.h");
-
-fn bytes(text: &str) -> Vec<u8> {
-    text.split(' ').map(|byte| u8::from_str_radix(byte, 16).unwrap()).collect()
-}
 
 fn lent(packet: &str) -> Lent {
     Lent { packet: bytes(packet), response: vec![0xEE; 8], row: vec![0; 4], tick: 10 }
@@ -187,21 +184,8 @@ fn ledger_call(ceiling: u32, allowance: u64, now: u64) -> Call {
     Call::RouterLedger { ceiling, fresh: ALL_ONES, allowance, now }
 }
 
-/// The header without comments, on one line with single spaces.
-fn header_text() -> String {
-    let mut text = String::new();
-    let mut rest = HEADER;
-    while let Some(start) = rest.find("/*") {
-        text += &rest[..start];
-        let end = rest[start..].find("*/").expect("an open comment");
-        rest = &rest[start + end + 2..];
-    }
-    text += rest;
-    text.split_whitespace().collect::<Vec<_>>().join(" ")
-}
-
 fn header(report: &mut Report) {
-    let text = header_text();
+    let text = header_text(HEADER);
     for prototype in PROTOTYPES {
         report.test(&format!("header: {prototype}"), text.contains(prototype));
     }

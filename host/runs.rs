@@ -4,11 +4,12 @@
 //! The model has no part in this. The packets are right requests with the option at byte 20, so that
 //! the rate is read where it stands, and the sums are taken from a history of (tick, rate).
 
-use crate::calls::{Memory, Spot};
+use crate::calls::Memory;
 use crate::ledgers::{self, Link};
 use crate::model::{rate_of, total, Call, Lent};
 use crate::packets::{self, Rng};
-use crate::Report;
+use crate::report::Report;
+use crate::yard::Spot;
 
 const SEED: u64 = 0x4C45_4447_4552_0005;
 const RUNS: usize = 400;

@@ -147,7 +147,13 @@ bytes-each [] e i = lit< tt
 bytes-each (a ∷ l) e zero = e .0
 bytes-each (a ∷ l) e (suc i) = bytes-each l (e .1) i
 
--- the same by one test, for a list of literals
+-- two lists of bytes together
+pub bytes-append : (a b : List ℕ) → Bytes a → Bytes b → Bytes (a ++ b)
+bytes-append [] b x y i = y i
+bytes-append (n ∷ a) b x y zero = x zero
+bytes-append (n ∷ a) b x y (suc i) = bytes-append a b (λ j. x (suc j)) y i
+
+-- bytes by one test, for a list of literals
 abbrev pub allBytes : List ℕ → Bool
 allBytes [] = true
 allBytes (a ∷ l) = ltb a 256 && allBytes l

@@ -1,32 +1,28 @@
 -- The claims of specs/Claims.antt. Which refusals a reply can be is followed through its tests and calls. Assumes nothing.
 use Prim.Native.Nat.{ℕ, zero, suc, _≤_}
-use mathlib.Core.Bool.{Bool, true, false, _&&_}
+use mathlib.Core.Bool.{true, _&&_}
 use mathlib.Core.List.{List, [], _∷_}
 use mathlib.Core.Option.{Option, none, some}
 use mathlib.Core.Path.{_≡_, refl, sym, ap}
 use native.Mathlib.Omega.{arith}
-use lib.Dec.{leb, eqb}
+use lib.Dec.{leb}
 use lib.ListN.{length}
-use Rattle.common.specs.Choice.{pick, within}
+use Rattle.common.specs.Choice.{within}
 use Rattle.refusals.specs.declared.Refusal.{Refusal}
 use Rattle.refusals.specs.Numbers.{numberOf}
-use Rattle.refusals.specs.Reply.{Reply, answer, refuse, done, andThen}
+use Rattle.refusals.specs.Reply.{Reply, answer, refuse, done}
+use Rattle.refusals.proofs.ReplyLaws.{RefusedBy, chosen-by, then-by}
 use Rattle.refusals.proofs.Claims.{table}
 use Rattle.rates.specs.Steps.{topCode}
 use Rattle.options.specs.declared.request.Request.{Request}
-use Rattle.walk.specs.declared.Place.{Place}
-use Rattle.walk.specs.Walks.{walk}
-use Rattle.walk.specs.Claims.{Faulty, bad-length, other-length, second}
-use Rattle.walk.proofs.Claims.{walking}
 use Rattle.ipv4.specs.declared.ecn.Marking.{Marking}
 use Rattle.ipv4.specs.declared.ecn.Marking.the-variants as Markings
-use Rattle.ipv4.specs.Headers.{ipTtl, headerOf, optionsOf}
-use Rattle.ipv4.specs.Checksums.{allOnes, onesSum}
-use Rattle.ipv4.specs.Checks.{wellFormed, headerChecked}
-use Rattle.ipv4.specs.Packets.{located, forwarded}
+use Rattle.ipv4.specs.Checks.{headerChecked}
+use Rattle.ipv4.specs.Packets.{forwarded}
 use Rattle.ipv4.specs.Marks.{Mark, marked, dropped, markReply}
 use Rattle.ipv4.specs.Replies.{markTold}
 use Rattle.ipv4.specs.Views.{view}
+use Rattle.ipv4.proofs.RefusalLaws.{checked-by, forwarded-by, view-by}
 use Rattle.ledger.specs.Calls.{Link, linkInRange, moveReply, askReply}
 use Rattle.ledger.specs.Rows.{total}
 use Rattle.router.specs.declared.Routed.{Routed}
@@ -105,90 +101,57 @@ apart = record { routers = routers-apart; receivers = receivers-apart; marks = m
 -- ---- which refusals a reply can be
 
 module _ (numbers : List ℕ) where
-  -- a reply is no refusal, or one of these
-  abbrev Within : {A : Type 0} → Reply A → Type 0
-  Within (answer a) = Unit {0}
-  Within (refuse n) = among numbers n ≡ true
+  -- a refusal is one of these
+  abbrev Is : ℕ → Type 0
+  Is n = among numbers n ≡ true
 
-  chosen-within : {A : Type 0} (t : Bool) (x y : Reply A) → Within x → Within y → Within (pick t x y)
-  chosen-within true x y f g = f
-  chosen-within false x y f g = g
+  module _ (one : Is 1) (two : Is 2) (three : Is 3) (five : Is 5) where
+    routed-within : among numbers 6 ≡ true → among numbers 7 ≡ true → (reach ceiling fresh : ℕ) (packet : List ℕ) → RefusedBy Is (routed reach ceiling fresh packet)
+    routed-within six seven reach ceiling fresh packet =
+        chosen-by Is (routerInRange ceiling fresh) _ _ (then-by Is (view reach packet) _ (view-by Is one two three five reach packet) (λ v. chosen-by Is (leb (v .ttl) 1) _ _ six tt)) seven
 
-  then-within : {A B : Type 0} (r : Reply A) (next : A → Reply B) → Within r → ((a : A) → Within (next a)) → Within (andThen r next)
-  then-within (answer a) next f g = g a
-  then-within (refuse n) next f g = f
+    -- a ledger's 7, 8 and 9
+    module _ (six : among numbers 6 ≡ true) (seven : among numbers 7 ≡ true) (eight : among numbers 8 ≡ true) (nine : among numbers 9 ≡ true) where
+      asked-within : (link : Link) (tick code : ℕ) → RefusedBy Is (askReply link tick code)
+      asked-within link tick code =
+          chosen-by Is (within 1 code topCode) _ _
+          (then-by Is (moveReply link tick) _
+          (chosen-by Is (linkInRange (length (link .row)) (link .ledger .allowance)) _ _
+          (chosen-by Is (leb (total (link .row)) (link .ledger .allowance)) _ _ (chosen-by Is (leb (link .ledger .tick) tick) _ _ tt nine) eight) seven)
+          (λ moved. tt))
+          seven
 
-  -- the header and the options, and the IP TTL, by the numbers that they are refused with
-  module _ (one : among numbers 1 ≡ true) (two : among numbers 2 ≡ true) where
-    checked-within : (reach : ℕ) (packet : List ℕ) → Within (headerChecked reach packet)
-    checked-within reach packet = chosen-within (wellFormed reach packet) _ _ (chosen-within (eqb (onesSum (headerOf packet)) allOnes) _ _ tt two) one
+      from-within : (ceiling : ℕ) (link : Link) (tick wish : ℕ) → RefusedBy Is (ceilingFrom ceiling link tick wish)
+      from-within ceiling link tick zero = tt
+      from-within ceiling link tick (suc wish) = asked-within link tick (suc wish)
 
-    forwarded-within : among numbers 6 ≡ true → (reach : ℕ) (packet : List ℕ) → Within (forwarded reach packet)
-    forwarded-within six reach packet =
-        then-within (headerChecked reach packet) _ (checked-within reach packet) (λ h. chosen-within (wellFormed reach packet) _ _ (chosen-within (leb (ipTtl packet) 1) _ _ six tt) one)
+      ledger-within : (reach ceiling fresh tick : ℕ) (p : Passage) → RefusedBy Is (routedByLedger reach ceiling fresh tick p)
+      ledger-within reach ceiling fresh tick p =
+          chosen-by Is (routerInRange ceiling fresh && linkInRange (length (p .link .row)) (p .link .ledger .allowance)) _ _
+          (then-by Is (view reach (p .packet)) _ (view-by Is one two three five reach (p .packet)) (λ v.
+          chosen-by Is (leb (v .ttl) 1) _ _ six
+          (then-by Is (ceilingFrom ceiling (p .link) tick (wishOf ceiling (v .request))) _ (from-within ceiling (p .link) tick (wishOf ceiling (v .request))) (λ g. tt))))
+          seven
 
-    module _ (three : among numbers 3 ≡ true) (five : among numbers 5 ≡ true) where
-      fault-within : (n : ℕ) (area : List ℕ) → Faulty n area → among numbers n ≡ true
-      fault-within n area (bad-length a b c d e f) = three
-      fault-within n area (other-length a b c d e f g) = five
-      fault-within n area (second a b c d e f g h i j) = five
+    reported-within : among numbers 4 ≡ true → (ceiling ttl : ℕ) (x : Option Request) → RefusedBy Is (reportReply ceiling ttl x)
+    reported-within four ceiling ttl none = four
+    reported-within four ceiling ttl (some r) = tt
 
-      walked-within : (area : List ℕ) (r : Reply Place) → walk area ≡ r → Within r
-      walked-within area (answer place) e = tt
-      walked-within area (refuse n) e = fault-within n area (walking .fault-sound area n e)
-
-      view-within : (reach : ℕ) (packet : List ℕ) → Within (view reach packet)
-      view-within reach packet =
-          then-within (located reach packet) _
-          (then-within (headerChecked reach packet) _ (checked-within reach packet) (λ h. then-within (walk (optionsOf packet)) _ (walked-within (optionsOf packet) (walk (optionsOf packet)) refl) (λ place. tt)))
-          (λ place. tt)
-
-      routed-within : among numbers 6 ≡ true → among numbers 7 ≡ true → (reach ceiling fresh : ℕ) (packet : List ℕ) → Within (routed reach ceiling fresh packet)
-      routed-within six seven reach ceiling fresh packet =
-          chosen-within (routerInRange ceiling fresh) _ _ (then-within (view reach packet) _ (view-within reach packet) (λ v. chosen-within (leb (v .ttl) 1) _ _ six tt)) seven
-
-      -- a ledger's 7, 8 and 9
-      module _ (six : among numbers 6 ≡ true) (seven : among numbers 7 ≡ true) (eight : among numbers 8 ≡ true) (nine : among numbers 9 ≡ true) where
-        asked-within : (link : Link) (tick code : ℕ) → Within (askReply link tick code)
-        asked-within link tick code =
-            chosen-within (within 1 code topCode) _ _
-            (then-within (moveReply link tick) _
-            (chosen-within (linkInRange (length (link .row)) (link .ledger .allowance)) _ _
-            (chosen-within (leb (total (link .row)) (link .ledger .allowance)) _ _ (chosen-within (leb (link .ledger .tick) tick) _ _ tt nine) eight) seven)
-            (λ moved. tt))
-            seven
-
-        from-within : (ceiling : ℕ) (link : Link) (tick wish : ℕ) → Within (ceilingFrom ceiling link tick wish)
-        from-within ceiling link tick zero = tt
-        from-within ceiling link tick (suc wish) = asked-within link tick (suc wish)
-
-        ledger-within : (reach ceiling fresh tick : ℕ) (p : Passage) → Within (routedByLedger reach ceiling fresh tick p)
-        ledger-within reach ceiling fresh tick p =
-            chosen-within (routerInRange ceiling fresh && linkInRange (length (p .link .row)) (p .link .ledger .allowance)) _ _
-            (then-within (view reach (p .packet)) _ (view-within reach (p .packet)) (λ v.
-            chosen-within (leb (v .ttl) 1) _ _ six
-            (then-within (ceilingFrom ceiling (p .link) tick (wishOf ceiling (v .request))) _ (from-within ceiling (p .link) tick (wishOf ceiling (v .request))) (λ g. tt))))
-            seven
-
-      reported-within : among numbers 4 ≡ true → (ceiling ttl : ℕ) (x : Option Request) → Within (reportReply ceiling ttl x)
-      reported-within four ceiling ttl none = four
-      reported-within four ceiling ttl (some r) = tt
-
-      received-within : among numbers 4 ≡ true → among numbers 7 ≡ true → (reach ceiling room : ℕ) (packet : List ℕ) → Within (received reach ceiling room packet)
-      received-within four seven reach ceiling room packet =
-          chosen-within (receiverInRange ceiling room) _ _ (then-within (view reach packet) _ (view-within reach packet) (λ v. reported-within four ceiling (v .ttl) (v .request))) seven
+    received-within : among numbers 4 ≡ true → among numbers 7 ≡ true → (reach ceiling room : ℕ) (packet : List ℕ) → RefusedBy Is (received reach ceiling room packet)
+    received-within four seven reach ceiling room packet =
+        chosen-by Is (receiverInRange ceiling room) _ _ (then-by Is (view reach packet) _ (view-by Is one two three five reach packet) (λ v. reported-within four ceiling (v .ttl) (v .request))) seven
 
   -- the number of such a reply, where those of what was done are among the numbers too
-  router-among : {A : Type 0} → among numbers 0 ≡ true → (r : Reply A) → Within r → among numbers (routerResult (done r)) ≡ true
+  router-among : {A : Type 0} → among numbers 0 ≡ true → (r : Reply A) → RefusedBy Is r → among numbers (routerResult (done r)) ≡ true
   router-among zeroth (answer a) w = zeroth
   router-among zeroth (refuse n) w = w
 
-  receiver-among : among numbers 0 ≡ true → among numbers 40 ≡ true → (r : Reply Report) → Within r → among numbers (receiverResult (reactionIn r)) ≡ true
+  receiver-among : among numbers 0 ≡ true → among numbers 40 ≡ true → (r : Reply Report) → RefusedBy Is r → among numbers (receiverResult (reactionIn r)) ≡ true
   receiver-among zeroth forty (answer unanswered) w = forty
   receiver-among zeroth forty (answer (reported r)) w = zeroth
   receiver-among zeroth forty (refuse n) w = w
 
-  mark-among : among numbers 0 ≡ true → among numbers 41 ≡ true → (r : Reply Mark) → Within r → among numbers (markResult r) ≡ true
+  mark-among : among numbers 0 ≡ true → among numbers 41 ≡ true → (r : Reply Mark) → RefusedBy Is r → among numbers (markResult r) ≡ true
   mark-among zeroth more (answer marked) w = zeroth
   mark-among zeroth more (answer dropped) w = more
   mark-among zeroth more (refuse n) w = w
@@ -203,11 +166,11 @@ possible = record {
       router-among l refl (routedByLedger (length (p .packet)) ceiling fresh tick p) (ledger-within l refl refl refl refl refl refl refl refl (length (p .packet)) ceiling fresh tick p);
   silent-router = λ packet.
       let l : List ℕ = 0 ∷ 1 ∷ 2 ∷ 6 ∷ [] in
-      router-among l refl (silentlyRouted (length packet) packet) (forwarded-within l refl refl refl (length packet) packet);
+      router-among l refl (silentlyRouted (length packet) packet) (forwarded-by (Is l) refl refl refl (length packet) packet);
   receiver = λ ceiling room packet.
       let l : List ℕ = 0 ∷ 1 ∷ 2 ∷ 3 ∷ 4 ∷ 5 ∷ 7 ∷ 40 ∷ [] in
       receiver-among l refl refl (received (length packet) ceiling room packet) (received-within l refl refl refl refl refl refl (length packet) ceiling room packet);
   mark = λ packet.
       let l : List ℕ = 0 ∷ 1 ∷ 2 ∷ 41 ∷ [] in
-      mark-among l refl refl (markReply packet) (then-within l (headerChecked (length packet) packet) _ (checked-within l refl refl (length packet) packet) (λ h. tt));
+      mark-among l refl refl (markReply packet) (then-by (Is l) (headerChecked (length packet) packet) _ (checked-by (Is l) refl refl (length packet) packet) (λ h. tt));
 }

@@ -13,7 +13,7 @@ use lib.ListN.{length, getD, drop}
 use Rattle.common.specs.Choice.{pick}
 use Rattle.common.specs.Lists.{Bytes}
 use Rattle.common.proofs.Choice.{by-test, clash}
-use Rattle.common.proofs.Lists.{bytes-each}
+use Rattle.common.proofs.Lists.{bytes-each, bytes-append}
 use Rattle.refusals.specs.Reply.{Reply, answer, refuse}
 use Rattle.refusals.proofs.ReplyLaws.{answered}
 use Rattle.rates.specs.Steps.{topCode}
@@ -183,18 +183,13 @@ spelt-in-range routers bytes all (record-2 ceiling fresh a b c d routers′ byte
     ((low, omega arith), spelt-in-range routers′ bytes′ (λ i. all (suc (suc (suc (suc (suc (suc i))))))) s)
 spelt-in-range routers bytes all (record-3 routers′ bytes′ s) = (tt, spelt-in-range routers′ bytes′ (λ i. all (suc i)) s)
 
--- two lists of bytes together, and the record of a router in range
-bytes-append : (a b : List ℕ) → Bytes a → Bytes b → Bytes (a ++ b)
-bytes-append [] b x y i = y i
-bytes-append (n ∷ a) b x y zero = x zero
-bytes-append (n ∷ a) b x y (suc i) = bytes-append a b (λ j. x (suc j)) y i
-
+-- the record of a router in range
 record-bytes : (router : Router) → RouterInRange router → Bytes (recordOf router)
 record-bytes (Knowing ceiling fresh) r = bytes-each (recordOf (Knowing ceiling fresh)) (omega arith)
 record-bytes Silent r = bytes-each (recordOf Silent) (lit< tt, tt)
 
 -- the four bytes of a nonce, as a word, are the nonce again
-word-back : (n : ℕ) → wordFrom (n / 4194304) (n / 16384 % 256) (n / 64 % 256) (n % 64 * 4) / 4 ≡ n
+pub word-back : (n : ℕ) → wordFrom (n / 4194304) (n / 16384 % 256) (n / 64 % 256) (n % 64 * 4) / 4 ≡ n
 word-back n =
     let second : n / 64 / 256 ≡ n / 16384 = div-div-eq-div-mul n 64 256 in
     let third : n / 16384 / 256 ≡ n / 4194304 = div-div-eq-div-mul n 16384 256 in

@@ -27,9 +27,13 @@ leastCeiling (Silent ∷ rest) = leastCeiling rest
 unfoldable pub summaryOf : List Router → Summary
 summaryOf routers = record { routers = length routers; silent = silentOnes routers; least = leastCeiling routers }
 
--- the summary of a row as bytes; 7 where it is none
+-- the summary of a row, by the routers that it is read as or the refusal, whatever form it is lent in
+abbrev pub summaryOver : Reply (List Router) → Reply Summary
+summaryOver row = andThen row (λ routers. answer (summaryOf routers))
+
+-- of a row as bytes; 7 where it is none
 abbrev pub summaryReply : ℕ → List ℕ → Reply Summary
-summaryReply limit bytes = andThen (rowOf limit bytes) (λ routers. answer (summaryOf routers))
+summaryReply limit bytes = summaryOver (rowOf limit bytes)
 
 -- "a summary's routers .. 0 to 64, its silent ones at most its routers", "ceilings 0 to 15"
 unfoldable pub summaryInRange : Summary → Bool

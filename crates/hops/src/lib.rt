@@ -4,7 +4,6 @@ ghost use mathlib.Core.Path.{_≡_};
 ghost use Prim.Native.Nat.{_+_, _*_, _/_, _≤_, _<_};
 ghost use lib.ListN.{length, drop};
 ghost use Rattle.rates.specs.Steps.{topCode};
-ghost use Rattle.options.specs.Wire.{nonceLimit};
 ghost use Rattle.hops.specs.Rows.{mostRouters, wordFrom, frontOf, lengthOf, hopsFrom};
 ghost use Rattle.hops.specs.Summaries.{joined, summaryOf, summaryInRange, summaryReply, joinReply};
 ghost use Rattle.hops.specs.Verdicts.{verdictInRange, verdictOf, verdictReply};
@@ -19,13 +18,13 @@ use refusals::in_range;
 pub const MOST_ROUTERS: u32 = 64;
 
 // A record's kind, and the length of the whole record.
-const KNOWING: u8 = 2;
+pub const KNOWING: u8 = 2;
 
-const KNOWING_LENGTH: usize = 6;
+pub const KNOWING_LENGTH: usize = 6;
 
-const SILENT: u8 = 3;
+pub const SILENT: u8 = 3;
 
-const SILENT_LENGTH: usize = 1;
+pub const SILENT_LENGTH: usize = 1;
 
 pub enum Router {
     // One that knows Quick-Start, with its ceiling and its fresh nonce.
@@ -77,7 +76,7 @@ pub enum VerdictAnswer {
 
 // The nonce in the four bytes of a word: its upper 30 bits.
 pub fn nonce_of(a: u8, b: u8, c: u8, d: u8) -> u32
-    ensures { λ r. ⌜ (r ≡ wordFrom a b c d / 4) × (r < nonceLimit) ⌝ }
+    ensures { λ r. ⌜ r ≡ wordFrom a b c d / 4 ⌝ }
 {
     let word = a as u32 * 16777216 + b as u32 * 65536 + c as u32 * 256 + d as u32;
     word / 4

@@ -44,8 +44,7 @@ use Rattle.hops.specs.Claims.{RoutersInRange, Spells}
 use Rattle.hops.specs.Verdicts as Verdicts
 use Rattle.hops.specs.Verdicts.{Verdict, lost, verdictReply}
 use Rattle.hops.proofs.Claims.{rows}
-use Rattle.path.specs.Runs.{hop, onward, travelBy, pathCalls, journey, saidOf, blank, concluded, arrived, runBy, runInRange, whereAsked, runCall, Journey}
-use Rattle.path.specs.Parts.{startReply}
+use Rattle.path.specs.Runs.{hop, onward, travelBy, pathCalls, journey, saidOf, blank, concluded, arrived, runBy, runInRange, whereAsked, startReply, runCall, Journey}
 use Rattle.path.specs.Claims.{TransportGiven, RunCall, InRanges, Starts, Testing, Arises, Running, Demanded, Cut, part, both, whole, wholeRow, saidBy, CallLaw, Leaving}
 use Rattle.path.specs.Demands.{Setting, verdictBy}
 use Rattle.path.proofs.RunLaws.{call-no-row, call-out, call-refused, call-ran}
@@ -92,7 +91,7 @@ module _ (c : Connection) (ceiling : ℕ) (t : Transport) where
   out-of : (InRanges c ceiling t → ⊥) → runInRange c ceiling t ≡ false
   out-of n = untrue (runInRange c ceiling t) (λ e. n (ranges-of e))
 
-  either-ranges : InRanges c ceiling t ⊎ (InRanges c ceiling t → ⊥)
+  pub either-ranges : InRanges c ceiling t ⊎ (InRanges c ceiling t → ⊥)
   either-ranges = either (runInRange c ceiling t) ranges-of in-ranges
 
 -- ---- which refusal is given
@@ -109,11 +108,8 @@ module _ (c : Connection) (packet : List ℕ) where
   start-asked ttl r s e f = ap (λ (x : State). whileAsked x (λ request. answer tt)) (sym f) ∙ start-by (answer (record { ttl = ttl; request = some r })) e
 
 module _ (c : Connection) (packet row : List ℕ) (ceiling : ℕ) (t : Transport) where
-  call-seven-row : (n : ℕ) → rowOf 64 row ≡ refuse n → runCall 64 c packet row ceiling t ≡ refusing 7 (journey packet c)
-  call-seven-row n e =
-      let k = refused (eqb (length (hopsFrom 64 row .rest)) 0) (hopsFrom 64 row .routers) n 7 (sym e) .1 in
-      let a = call-no-row 64 c packet row ceiling t (e ∙ ap refuse k) in
-      same-outcome _ _ (sym (a .0)) (sym (a .1))
+  call-seven-row : rowOf 64 row ≡ refuse 7 → runCall 64 c packet row ceiling t ≡ refusing 7 (journey packet c)
+  call-seven-row e = let a = call-no-row 64 c packet row ceiling t e in same-outcome _ _ (sym (a .0)) (sym (a .1))
 
   module _ (routers : List Router) (is-row : rowOf 64 row ≡ answer routers) where
     call-seven : (InRanges c ceiling t → ⊥) → runCall 64 c packet row ceiling t ≡ refusing 7 (journey packet c)
@@ -164,7 +160,9 @@ module _ (call : RunCall) (a : Testing call) (c : Connection) (packet row : List
     by-place (answer place) l = by-request (requestAt place packet) (viewed-by (length packet) packet place l)
 
   by-row : (x : Reply (List Router)) → rowOf 64 row ≡ x → Same
-  by-row (refuse n) e = a .seven-row c packet row ceiling t n e ∙ sym (tests .seven-row c packet row ceiling t n e)
+  by-row (refuse n) e =
+      let seven : rowOf 64 row ≡ refuse 7 = e ∙ ap refuse (refused (eqb (length (hopsFrom 64 row .rest)) 0) (hopsFrom 64 row .routers) n 7 (sym e) .1) in
+      a .seven-row c packet row ceiling t seven ∙ sym (tests .seven-row c packet row ceiling t seven)
   by-row (answer routers) e =
       ⊎-elim
       (λ (g : InRanges c ceiling t). by-place routers e g (located (length packet) packet) refl)

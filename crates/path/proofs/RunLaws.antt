@@ -2,7 +2,7 @@
 use Prim.Native.Nat.{ℕ, suc, _+_, _-_, _≤_, _<_}
 use mathlib.Core.Bool.{Bool, true, false}
 use mathlib.Core.List.{List}
-use mathlib.Core.Option.{Option, none, some}
+use mathlib.Core.Option.{none, some}
 use mathlib.Core.Path.{_≡_, refl, sym, ap, ap₂, _∙_}
 use native.Mathlib.Omega.{arith}
 use lib.ListN.{length, drop, length-drop}
@@ -11,8 +11,7 @@ use Rattle.common.proofs.Choice.{chosen, clash}
 use Rattle.common.specs.Choice.{pick}
 use Rattle.refusals.specs.Reply.{Reply, answer, refuse, leaves, done, andThen, Outcome}
 use Rattle.refusals.proofs.ReplyLaws.{went, stayed}
-use Rattle.options.specs.declared.request.Request.{Request}
-use Rattle.ipv4.specs.Views.{View, view}
+use Rattle.ipv4.specs.Views.{View}
 use Rattle.inspect.specs.declared.Asking.{Asking}
 use Rattle.inspect.specs.declared.Seen.{Seen}
 use Rattle.inspect.specs.Sights.{requestOf, sighted, viewOf}
@@ -20,16 +19,13 @@ use Rattle.inspect.proofs.Claims.{looking}
 use Rattle.receiver.specs.Reports.{Report, unanswered, reported, responseAfter}
 use Rattle.receiver.specs.Replies.{silence, response, reactionIn}
 use Rattle.connection.specs.declared.Connection.{Connection}
-use Rattle.connection.specs.declared.State.{State}
-use Rattle.connection.specs.declared.State.the-variants.{Idle, Asked, Quick}
 use Rattle.sender.specs.Calls.{Transport, whileAsked}
 use Rattle.hops.specs.declared.Router.{Router}
 use Rattle.hops.specs.Rows.{mostRouters, frontOf, lengthOf, Hops, noHops, ahead, hopsFrom, rowOf}
 use Rattle.hops.specs.Verdicts as Verdicts
 use Rattle.hops.specs.Verdicts.{Verdict}
 use Rattle.hops.proofs.RowLaws.{front-fits, hops-end, hops-next}
-use Rattle.path.specs.Runs.{Calls, onward, travelBy, pathCalls, journey, Run, ran, saidOf, blank, concluded, arrived, runBy, runInRange, whereAsked, runReply, runCall}
-use Rattle.path.specs.Parts.{startReply}
+use Rattle.path.specs.Runs.{Calls, onward, travelBy, pathCalls, journey, Run, ran, saidOf, blank, concluded, arrived, runBy, runInRange, whereAsked, runReply, runCall, startReply}
 
 -- ---- the hops' travel
 
@@ -130,32 +126,20 @@ module _ (calls : Calls) (c : Connection) (t : Transport) (ceiling : ℕ) (route
 
 -- ---- the tests of the packet and of the state
 
-abbrev inTurn : {A : Type 0} → Connection → A → View → Reply A
-inTurn c a v = whereAsked (v .request) (whileAsked (c .state) (λ request. answer a))
-
--- what follows a start
-start-then : {A : Type 0} (c : Connection) (a : A) (v : Reply View) → andThen (andThen v (inTurn c (tt {0}))) (λ _. answer a) ≡ andThen v (inTurn c a)
-start-then {A} c a (refuse n) = refl
-start-then {A} c a (answer v) = by-request (v .request) (c .state)
-  where
-    by-request : (x : Option Request) (s : State)
-        → andThen (whereAsked x (whileAsked s (λ request. answer (tt {0})))) (λ _. answer a) ≡ whereAsked x (whileAsked s (λ request. answer a))
-    by-request none s = refl
-    by-request (some r) Idle = refl
-    by-request (some r) (Asked q) = refl
-    by-request (some r) (Quick b) = refl
+abbrev inTurn : Connection → View → Reply (Unit {0})
+inTurn c v = whereAsked (v .request) (whileAsked (c .state) (λ request. answer tt))
 
 module _ (c : Connection) (packet : List ℕ) where
   abbrev bySight : Seen → Reply (Unit {0})
-  bySight seen = inTurn c tt (viewOf seen)
+  bySight seen = inTurn c (viewOf seen)
 
   start-by : (s : Reply Seen) → s ≡ sighted (length packet) packet → andThen s bySight ≡ startReply c packet
   start-by s e =
       ap (λ (r : Reply Seen). andThen r bySight) e
       ∙ sym (on-view (sighted (length packet) packet))
-      ∙ ap (λ (v : Reply View). andThen v (inTurn c tt)) (looking .views (length packet) packet)
+      ∙ ap (λ (v : Reply View). andThen v (inTurn c)) (looking .views (length packet) packet)
     where
-      on-view : (r : Reply Seen) → andThen (andThen r (λ seen. answer (viewOf seen))) (inTurn c tt) ≡ andThen r bySight
+      on-view : (r : Reply Seen) → andThen (andThen r (λ seen. answer (viewOf seen))) (inTurn c) ≡ andThen r bySight
       on-view (answer seen) = refl
       on-view (refuse n) = refl
 
@@ -182,7 +166,7 @@ module _ (limit : ℕ) (c : Connection) (packet row : List ℕ) (ceiling : ℕ) 
   )
 
   abbrev onPacket : List Router → Reply Run
-  onPacket routers = andThen (view (length packet) packet) (inTurn c (runBy pathCalls c t ceiling routers packet))
+  onPacket routers = andThen (startReply c packet) (λ _. answer (runBy pathCalls c t ceiling routers packet))
 
   abbrev onRow : List Router → Reply Run
   onRow routers = pick (runInRange c ceiling t) (onPacket routers) (refuse 7)
@@ -201,7 +185,6 @@ module _ (limit : ℕ) (c : Connection) (packet row : List ℕ) (ceiling : ℕ) 
       started : (s : Reply (Unit {0})) → s ≡ startReply c packet → andThen s (λ _. answer (runBy pathCalls c t ceiling routers packet)) ≡ runReply limit c packet row ceiling t
       started s e =
           ap (λ (r : Reply (Unit {0})). andThen r (λ _. answer (runBy pathCalls c t ceiling routers packet))) e
-          ∙ start-then c (runBy pathCalls c t ceiling routers packet) (view (length packet) packet)
           ∙ sym (chosen (runInRange c ceiling t) _ _ ok)
           ∙ on-row
 

@@ -178,7 +178,7 @@ pub record Starts (c : Connection) (packet row : List ℕ) (ceiling : ℕ) (t : 
 
 -- 7 for all numbers and the row, then 1, 2, 3, 5 and 4 on the packet as lent, then 11: a refused run leaves packet and record
 pub record Testing (call : RunCall) : Type 0 where
-  pub seven-row : (c : Connection) (packet row : List ℕ) (ceiling : ℕ) (t : Transport) (n : ℕ) → rowOf 64 row ≡ refuse n → call c packet row ceiling t ≡ refusing 7 (journey packet c)
+  pub seven-row : (c : Connection) (packet row : List ℕ) (ceiling : ℕ) (t : Transport) → rowOf 64 row ≡ refuse 7 → call c packet row ceiling t ≡ refusing 7 (journey packet c)
   pub seven : (c : Connection) (packet row : List ℕ) (ceiling : ℕ) (t : Transport) (routers : List Router) → rowOf 64 row ≡ answer routers → (InRanges c ceiling t → ⊥)
       → call c packet row ceiling t ≡ refusing 7 (journey packet c)
   pub faulty : (c : Connection) (packet row : List ℕ) (ceiling : ℕ) (t : Transport) (routers : List Router) (n : ℕ) → rowOf 64 row ≡ answer routers → InRanges c ceiling t

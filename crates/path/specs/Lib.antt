@@ -1,5 +1,4 @@
 pub mod Runs
 pub mod Demands
 pub mod Replies
-pub mod Parts
 pub mod Claims

@@ -118,18 +118,28 @@ abbrev pub whereAsked : {A : Type 0} → Option Request → Reply A → Reply A
 whereAsked none reply = refuse 4
 whereAsked (some r) reply = reply
 
--- a run over a row of hops as bytes. All is tested before a byte changes: 7 for the row and all numbers, then 1, 2, 3, 5 and 4 on the packet as lent, then 11
-abbrev pub runReply : ℕ → Connection → List ℕ → List ℕ → ℕ → Transport → Reply Run
-runReply limit c packet row ceiling t =
-    andThen (rowOf limit row) (λ routers.
+-- the tests of the packet as lent, 1, 2, 3, 5 and 4, then that of the record's state, 11
+abbrev pub startReply : Connection → List ℕ → Reply (Unit {0})
+startReply c packet = andThen (view (length packet) packet) (λ v. whereAsked (v .request) (whileAsked (c .state) (λ request. answer tt)))
+
+-- a run over a row of hops, by the routers that it is read as or the refusal, whatever form it is lent in. All is tested before a byte changes: 7 for the row and all numbers, then
+-- what a run starts from
+abbrev pub runOver : Reply (List Router) → Connection → List ℕ → ℕ → Transport → Reply Run
+runOver row c packet ceiling t =
+    andThen row (λ routers.
     pick (runInRange c ceiling t)
-    (andThen (view (length packet) packet) (λ v.
-    whereAsked (v .request)
-    (whileAsked (c .state) (λ request. answer (runBy pathCalls c t ceiling routers packet)))))
+    (andThen (startReply c packet) (λ _. answer (runBy pathCalls c t ceiling routers packet)))
     (refuse 7))
 
 -- what the call says, and what it leaves: a refused one leaves packet and record as they were
-abbrev pub runCall : ℕ → Connection → List ℕ → List ℕ → ℕ → Transport → Outcome Verdict Journey
-runCall limit c packet row ceiling t =
-    let reply = runReply limit c packet row ceiling t in
+abbrev pub callOver : Reply (List Router) → Connection → List ℕ → ℕ → Transport → Outcome Verdict Journey
+callOver row c packet ceiling t =
+    let reply = runOver row c packet ceiling t in
     record { said = andThen reply (λ run. answer (run .verdict)); left = leaves (journey packet c) (andThen reply (λ run. answer (run .left))) }
+
+-- over a row as bytes
+abbrev pub runReply : ℕ → Connection → List ℕ → List ℕ → ℕ → Transport → Reply Run
+runReply limit c packet row ceiling t = runOver (rowOf limit row) c packet ceiling t
+
+abbrev pub runCall : ℕ → Connection → List ℕ → List ℕ → ℕ → Transport → Outcome Verdict Journey
+runCall limit c packet row ceiling t = callOver (rowOf limit row) c packet ceiling t

@@ -9,8 +9,7 @@ ghost use Rattle.sender.specs.Calls.{transport, whileAsked};
 ghost use Rattle.sender.specs.Replies.{acceptedTold};
 ghost use Rattle.hops.specs.Rows.{mostRouters, hopsFrom};
 ghost use Rattle.hops.specs.Replies.{verdictTold, verdictAnswerTold};
-ghost use Rattle.path.specs.Runs.{hop as oneHop, pathCalls, saidOf, concluded, runBy, ran, journey, runInRange, runCall};
-ghost use Rattle.path.specs.Parts.{startReply};
+ghost use Rattle.path.specs.Runs.{hop as oneHop, pathCalls, saidOf, concluded, runBy, ran, journey, runInRange, startReply, runCall};
 ghost use Rattle.path.specs.Replies.{startTold};
 use connection::Connection;
 use connection::State;
@@ -106,6 +105,7 @@ fn conclude(
 {
     let mut response = [0; 8];
     match receiver(packet, ceiling, &mut response) {
+        // Never after a run has started: the packet is without fault and carries a request.
         Received::Refused(why) => Concluded {
             verdict: Verdict::NotAccepted(why),
             connection,

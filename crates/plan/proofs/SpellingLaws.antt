@@ -1,32 +1,19 @@
 -- Every run in range can be spelled, and what bytes spell is in range: the claim Spelling. Assumes nothing.
-use Prim.Native.Nat.{ℕ, zero, suc, _*_, _/_, _%_, _<_}
+use Prim.Native.Nat.{ℕ, _*_, _/_, _%_, _<_}
 use mathlib.Core.List.{List, [], _∷_, _++_}
 use mathlib.Core.Path.{_≡_, refl, ap, subst, _∙_}
-use native.Mathlib.Nat.{div-div-eq-div-mul}
 use native.Mathlib.Omega.{arith}
 use lib.ListN.{length}
 use lib.Seq.{take-append-seam}
 use Rattle.common.specs.Lists.{Bytes}
-use Rattle.common.proofs.Lists.{bytes-each, bytes-part}
-use Rattle.hops.specs.Rows.{wordFrom}
+use Rattle.common.proofs.Lists.{bytes-each, bytes-append, bytes-part}
 use Rattle.hops.specs.Claims.{spelled}
+use Rattle.hops.proofs.SpellLaws.{word-back}
 use Rattle.hops.proofs.Claims.{rows}
 use Rattle.plan.specs.Records.{Plan}
 use Rattle.plan.specs.Claims.{SpellsRun, PlanInRange, spelledRun, Spelling}
 
 -- ---- a spelling of a run
-
--- the four bytes of a nonce, as a word, are the nonce again
-word-back : (n : ℕ) → wordFrom (n / 4194304) (n / 16384 % 256) (n / 64 % 256) (n % 64 * 4) / 4 ≡ n
-word-back n =
-    let second : n / 64 / 256 ≡ n / 16384 = div-div-eq-div-mul n 64 256 in
-    let third : n / 16384 / 256 ≡ n / 4194304 = div-div-eq-div-mul n 16384 256 in
-    omega arith
-
-bytes-append : (a b : List ℕ) → Bytes a → Bytes b → Bytes (a ++ b)
-bytes-append [] b x y i = y i
-bytes-append (n ∷ a) b x y zero = x zero
-bytes-append (n ∷ a) b x y (suc i) = bytes-append a b (λ j. x (suc j)) y i
 
 written : (limit : ℕ) (p : Plan) → PlanInRange limit p → SpellsRun limit p (spelledRun p) × Bytes (spelledRun p)
 written limit p r =

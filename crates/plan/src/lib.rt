@@ -154,16 +154,16 @@ fn bad_line(at: usize) -> Text
 
 // ---- the run
 
-// The program's own connection: its window and ssthresh; and its own round trip, segment size and headers.
-const WINDOW: u64 = 14600;
+// Our own connection, where nobody lends one: its window and ssthresh; and its round trip, segment size and headers.
+pub const WINDOW: u64 = 14600;
 
-const SSTHRESH: u64 = 65535;
+pub const SSTHRESH: u64 = 65535;
 
-const RTT: u64 = 600000;
+pub const RTT: u64 = 600000;
 
-const MSS: u64 = 1460;
+pub const MSS: u64 = 1460;
 
-const HEADERS: u64 = 40;
+pub const HEADERS: u64 = 40;
 
 // A header of 28 bytes with one option, without its checksum.
 fn header_with(ttl: u8, request: [u8; 8]) -> [u8; 28]

@@ -63,3 +63,19 @@ same-outcome {A} {B} o p e f = ap₂ (λ (s : Reply A) (l : B). record { said = 
 -- what a call says and leaves, by another form of its reply
 pub replied : {A : Type 0} (old : A) {x y : Reply A} → x ≡ y → (done x ≡ done y) × (leaves old x ≡ leaves old y)
 replied old e = (ap done e, ap (leaves old) e)
+
+-- ---- which refusals a reply can be
+
+module _ (P : ℕ → Type 0) where
+  -- no refusal, or one with a number of which P holds
+  abbrev pub RefusedBy : {A : Type 0} → Reply A → Type 0
+  RefusedBy (answer a) = Unit {0}
+  RefusedBy (refuse n) = P n
+
+  pub chosen-by : {A : Type 0} (t : Bool) (x y : Reply A) → RefusedBy x → RefusedBy y → RefusedBy (pick t x y)
+  chosen-by true x y f g = f
+  chosen-by false x y f g = g
+
+  pub then-by : {A B : Type 0} (r : Reply A) (next : A → Reply B) → RefusedBy r → ((a : A) → RefusedBy (next a)) → RefusedBy (andThen r next)
+  then-by (answer a) next f g = g a
+  then-by (refuse n) next f g = f

@@ -71,7 +71,7 @@ returns-6 c =
     let row = c .before .before .before .before .before .before .before .before .before .before .before .before .before .before .args .row .now in
     let at = c .before .before .before .before .before .before .before .before .before .before .before .before .before .before .args .at in
     let h = c .before .before .before .before .before .before .wide .ensures in
-    ap₂ (λ (a b : ℕ). some (Knowing a b)) h (c .nonce-of .ensures .0)
+    ap₂ (λ (a b : ℕ). some (Knowing a b)) h (c .nonce-of .ensures)
     ∙ sym (knowing-front row at (c .before .before .before .before .before .before .before .before .before .if3 .left) (c .before .before .before .before .before .before .before .before .if4 .left) (omega (arith, c .before .before .before .before .before .if5 .left, h)))
 
 pub router-at-spec : {M : Type 1} → statement M

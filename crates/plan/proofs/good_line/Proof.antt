@@ -66,7 +66,7 @@ said c =
     let end = c .before .before .before .before .before .before .before .before .before .before .before .before .before .before .args .end in
     let p = c .before .before .before .before .before .before .before .before .before .before .before .before .before .before .pre in
     c .run-path .ensures
-    ∙ same-run _ _ _ (c .before .before .before .before .before .before .before .before .before .before .before .wide .ensures) (c .before .before .before .before .before .before .nonce-of .ensures .0) (c .before .before .before .before .wide2 .ensures)
+    ∙ same-run _ _ _ (c .before .before .before .before .before .before .before .before .before .before .before .wide .ensures) (c .before .before .before .before .before .before .nonce-of .ensures) (c .before .before .before .before .wide2 .ensures)
     ∙ read-said input end (λ i. c .before .before .before .before .before .before .before .before .before .before .before .before .before .shared-slice-known .given i .fits) (p .0) (p .1) (p .2) (p .3)
 
 enum-known-why : tie.Need-enum-known-why

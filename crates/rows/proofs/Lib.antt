@@ -1,0 +1,5 @@
+pub mod GatherLaws
+pub mod ResultLaws
+pub mod RowClaims
+pub mod Claims
+pub mod ResultClaims

@@ -1,0 +1,4 @@
+pub mod Rows
+pub mod Results
+pub mod Parts
+pub mod Claims

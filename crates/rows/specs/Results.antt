@@ -1,0 +1,42 @@
+-- What the functions for C answer with and leave. A refusal of the table, 1 to 15, says that nothing was changed; the summary's 0, and every verdict's number, that the call was made.
+-- Assumes nothing.
+use Prim.Native.Nat.{ℕ, _+_, _%_}
+use mathlib.Core.List.{List, [], _∷_}
+use lib.Dec.{eqb}
+use lib.ListN.{length}
+use Rattle.common.specs.Choice.{pick}
+use Rattle.refusals.specs.Reply.{Reply, answer, refuse, andThen}
+use Rattle.connection.specs.declared.State.the-variants.{Asked}
+use Rattle.connection.specs.declared.Connection.{Connection}
+use Rattle.connection.specs.Records.{freshWith, withState}
+use Rattle.sender.specs.Calls.{Transport, transport}
+use Rattle.hops.specs.declared.Summary.{Summary}
+use Rattle.hops.specs.Verdicts.{Verdict, lost, unanswered, notAccepted, accepted}
+use Rattle.plan.specs.Lines.{window, ssthresh, roundTrip, segment, headers}
+
+-- ---- the summary of a row
+
+-- a buffer for exactly three numbers: routers, silent ones, least ceiling; else 7
+abbrev pub summaryLent : List ℕ → Reply Summary → Reply (List ℕ)
+summaryLent numbers reply = pick (eqb (length numbers) 3) (andThen reply (λ s. answer (s .routers ∷ s .silent ∷ s .least ∷ []))) (refuse 7)
+
+abbrev pub summaryResult : Reply (Unit {0}) → ℕ
+summaryResult (answer _) = 0
+summaryResult (refuse n) = n
+
+-- ---- the run of a path
+
+-- a connection of our own whose request is open, and the T, MSS and H of the program
+abbrev pub openFor : ℕ → ℕ → ℕ → Connection
+openFor code diff nonce = withState (freshWith window ssthresh) (Asked (record { code = code; «ttl_diff» = diff; nonce = nonce }))
+
+abbrev pub ownTransport : Transport
+ownTransport = transport roundTrip segment headers
+
+-- 42 for lost, 40 for unanswered, 200 more than the sender's refusal, 100 more than the rate accepted; a refused run its refusal. A rate that arises is at most 15, its own remainder
+abbrev pub verdictResult : Reply Verdict → ℕ
+verdictResult (answer lost) = 42
+verdictResult (answer unanswered) = 40
+verdictResult (answer (notAccepted n)) = 200 + n
+verdictResult (answer (accepted rate)) = 100 + rate % 100
+verdictResult (refuse n) = n
