@@ -1,4 +1,4 @@
-//! The exported functions, called from Rust on memory that shows any access out of bounds.
+//! The exported functions of libgateway.a, called from Rust on memory that shows any access out of bounds.
 
 use crate::model::{Call, Lent};
 use crate::yard::{Spot, Yard};

@@ -1,5 +1,5 @@
-//! Compares the five exported functions with `model.rs` on packets from a fixed seed, requires that
-//! every kind of outcome was met, and runs document 01's cases byte for byte.
+//! Compares the five exported functions of libgateway.a with `model.rs` on packets from a fixed seed,
+//! requires that every kind of outcome was met, and runs document 01's cases byte for byte.
 //!
 //! The last line is `N passed, M failed`; the exit status is 0 only if M is 0.
 

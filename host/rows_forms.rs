@@ -19,9 +19,9 @@ const PATHS: usize = 600;
 const LEAST_COUNT: usize = 30;
 const SHOWN_MISMATCHES: usize = 10;
 
-/// "One byte of kind, then a body whose length the kind fixes: 1 request (code, IP TTL, QS TTL, word); 2
-/// router that knows (ceiling, fresh word); 3 silent router; 4 receiver (ceiling)." A word is 30 bits of
-/// nonce above 2 reserved bits, which are ignored.
+/// The program's records: "1 request (code, IP TTL, QS TTL, word: 7 bytes); 2 router that knows (ceiling,
+/// fresh word: 5); 3 silent router (0); 4 receiver (ceiling: 1)". A word is 30 bits of nonce above 2
+/// reserved bits, which are ignored.
 fn records(rng: &mut Rng, request: &Request, row: &[Hop]) -> Vec<u8> {
     let mut word = |nonce: u32| (nonce << 2 | rng.below(4) as u32).to_be_bytes();
     let mut input = vec![1, request.code, request.ip_ttl, request.qs_ttl];

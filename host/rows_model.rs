@@ -5,7 +5,7 @@
 
 use crate::model::{answer, Call, Done, Lent, Refusal};
 
-/// "A row of hop records, each with its knowledge, ceiling and fresh nonce."
+/// "a row of hop records, each with its knowledge, ceiling and fresh nonce."
 #[derive(Clone, Copy, PartialEq, Eq, Debug)]
 pub struct Hop {
     pub knows: bool,
@@ -53,17 +53,17 @@ pub fn number(said: Said) -> u32 {
     }
 }
 
-/// "Nonces below 2^30."
+/// "nonces below 2^30"
 pub fn nonce_in_range(nonce: u32) -> bool {
     nonce < 1_073_741_824
 }
 
-/// "Hop rows .. 0 to 64", "ceilings 0 to 15", "nonces below 2^30"; of a silent hop too.
+/// "hop rows .. 0 to 64", "ceilings 0 to 15", "nonces below 2^30"; of a silent hop too.
 pub fn row_in_range(row: &[Hop]) -> bool {
     row.len() <= 64 && row.iter().all(|hop| hop.ceiling <= 15 && nonce_in_range(hop.fresh))
 }
 
-/// "The number of routers, the number of silent ones and the least ceiling of those that know (15 if
+/// "the number of routers, the number of silent ones and the least ceiling of those that know (15 if
 /// none)", or 7.
 pub fn summary(row: &[Hop]) -> Result<[u32; 3], u32> {
     if !row_in_range(row) {
@@ -106,7 +106,7 @@ fn refusal(trip: &Trip, lent: &Lent) -> Option<u32> {
     answer(Call::Receiver { ceiling: 15 }, lent).said.err().map(|refusal| refusal as u32)
 }
 
-/// "The response call with its bytes": "accepted exactly when the rate is 1 to the code asked, TTL Diff
+/// "the response call with its bytes": "accepted exactly when the rate is 1 to the code asked, TTL Diff
 /// is the stored one, and both nonces agree modulo 4 to that rate", else 13, 14, 15 in this order.
 fn judged(open: Open, response: &[u8]) -> Verdict {
     assert!(response[..2] == [27, 8], "no response");

@@ -83,7 +83,8 @@ extern "C" {
 #define QS_ROW_ABOVE_ALLOWANCE 8  /* the row, as lent, sums to more than the allowance */
 #define QS_BACK_IN_TIME 9         /* `now` is before the stored tick */
 
-/* The sender's refusals. No function of this header returns them; their numbers are kept free. */
+/* The sender's refusals. No function of this header returns them; quickstart_path.h adds the last three
+   to QS_NOT_ACCEPTED. */
 #define QS_REQUEST_OPEN 10        /* a request is open, or was made less than a round trip ago */
 #define QS_WRONG_STATE 11         /* there is no request, or no Quick-Start window, to act upon */
 #define QS_NOT_A_RESPONSE 12      /* not the TCP option of kind 27 and length 8 */

@@ -24,13 +24,13 @@
  *     uint8_t trial[1500];
  *
  *     for (int i = 0; i < 3; i++)
- *         path[i].fresh_nonce = random_bits() >> 2;
+ *         if (path[i].knows) path[i].fresh_nonce = random_bits() >> 2;
  *     if (qs_path_summary(path, 3, s, 3) == QS_DONE)
  *         printf("%u routers, %u silent, rate code at most %u\n", s[0], s[1], s[2]);
  *     memcpy(trial, p, n);                              // the run changes what it is lent
  *     uint32_t r = qs_path_run(trial, n, path, 3, 15, code, (uint8_t)(ttl - qs_ttl), nonce);
  *     if (r == QS_LOST)
- *         puts("a router meets IP TTL 1: the packet goes no further");
+ *         puts("a router meets IP TTL 0 or 1: the packet goes no further");
  *     else if (r == QS_UNANSWERED)
  *         puts("somebody on the path allows no rate");
  *     else if (r > QS_NOT_ACCEPTED)

@@ -123,7 +123,7 @@ abbrev pub startReply : Connection → List ℕ → Reply (Unit {0})
 startReply c packet = andThen (view (length packet) packet) (λ v. whereAsked (v .request) (whileAsked (c .state) (λ request. answer tt)))
 
 -- a run over a row of hops, by the routers that it is read as or the refusal, whatever form it is lent in. All is tested before a byte changes: 7 for the row and all numbers, then
--- what a run starts from
+-- the tests of `startReply`
 abbrev pub runOver : Reply (List Router) → Connection → List ℕ → ℕ → Transport → Reply Run
 runOver row c packet ceiling t =
     andThen row (λ routers.

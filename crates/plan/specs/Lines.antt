@@ -14,7 +14,7 @@ use Rattle.plan.specs.Records.{Plan, Reading, good, bad, readPlan}
 
 -- ---- the run
 
--- the program's own connection: its window and ssthresh; and its own T, MSS and H
+-- our own connection, where nobody lends one: its window and ssthresh; and its T, MSS and H
 abbrev pub window : ℕ
 window = 14600
 

@@ -327,7 +327,7 @@ pub extern "C" fn qs_path_summary(row: &[Hop], summary: &mut [u32]) -> u32
 }
 
 // The run of a path over a row of hops, for a request that is open, by its code, starting TTL Diff and nonce, and a packet
-// with a request, which the sender judges if it is another.
+// with a request, which need not be that one: the sender judges what comes back.
 #[no_mangle]
 pub extern "C" fn qs_path_run(
     packet: &mut [u8],
