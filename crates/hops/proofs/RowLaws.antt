@@ -12,9 +12,10 @@ use borrow.Author.Tests.{le-leb, eq-eqb, ne-eqb, eqb-true, leb-true}
 use Rattle.common.specs.Choice.{pick}
 use Rattle.common.proofs.Choice.{both-true, clash}
 use Rattle.rates.specs.Steps.{topCode}
+use Rattle.options.specs.Wire.{wordFrom}
 use Rattle.hops.specs.declared.Router.{Router}
 use Rattle.hops.specs.declared.Router.the-variants.{Knowing, Silent}
-use Rattle.hops.specs.Rows.{knowingKind, silentKind, lengthOf, wordFrom, nonceAt, isKnowing, frontOf, noHops, ahead, goOn, hopsFrom}
+use Rattle.hops.specs.Rows.{knowingKind, silentKind, lengthOf, nonceAt, isKnowing, frontOf, noHops, ahead, goOn, hopsFrom}
 
 -- ---- what stands in front
 

@@ -1,11 +1,10 @@
 -- Laws of rows and their spellings: what stands in front of some bytes, which bytes are read as which routers, and how long a spelling is. Assumes nothing.
-use Prim.Native.Nat.{ℕ, zero, suc, _*_, _/_, _%_, _≤_, _<_, zero-le}
+use Prim.Native.Nat.{ℕ, zero, suc, _+_, _*_, _/_, _%_, _≤_, _<_, zero-le}
 use mathlib.Core.Bool.{Bool, true, false}
 use mathlib.Core.List.{List, [], _∷_, _++_, append-nil, append-assoc}
 use mathlib.Core.Logic.{_⊎_, inl, inr}
 use mathlib.Core.Option.{Option, none, some}
 use mathlib.Core.Path.{_≡_, refl, sym, ap, subst, _∙_}
-use native.Mathlib.Nat.{div-div-eq-div-mul}
 use native.Mathlib.Omega.{arith}
 use borrow.Author.Tests.{le-leb, eqb-true}
 use lib.Dec.{eqb, lit<}
@@ -17,10 +16,12 @@ use Rattle.common.proofs.Lists.{bytes-each, bytes-append}
 use Rattle.refusals.specs.Reply.{Reply, answer, refuse}
 use Rattle.refusals.proofs.ReplyLaws.{answered}
 use Rattle.rates.specs.Steps.{topCode}
+use Rattle.options.specs.Wire.{wordFrom}
+use Rattle.options.proofs.WireLaws.{word-again}
 use Rattle.hops.specs.declared.Router.{Router}
 use Rattle.hops.specs.declared.Router.the-variants.{Knowing, Silent}
-use Rattle.hops.specs.Rows.{Hops, wordFrom, nonceAt, lengthOf, isKnowing, frontOf, ahead, hopsFrom, rowOf}
-use Rattle.hops.specs.Claims.{Spells, no-record, record-2, record-3, RouterInRange, RoutersInRange, recordOf, spelled}
+use Rattle.hops.specs.Rows.{Hops, nonceAt, lengthOf, recordOf, isKnowing, frontOf, ahead, hopsFrom, rowOf}
+use Rattle.hops.specs.Claims.{Spells, no-record, record-2, record-3, RouterInRange, RoutersInRange, spelled}
 use Rattle.hops.proofs.RowLaws.{knowing-if, hops-end, hops-next}
 
 -- ---- the record in front
@@ -189,18 +190,15 @@ record-bytes (Knowing ceiling fresh) r = bytes-each (recordOf (Knowing ceiling f
 record-bytes Silent r = bytes-each (recordOf Silent) (lit< tt, tt)
 
 -- the four bytes of a nonce, as a word, are the nonce again
-pub word-back : (n : ℕ) → wordFrom (n / 4194304) (n / 16384 % 256) (n / 64 % 256) (n % 64 * 4) / 4 ≡ n
-word-back n =
-    let second : n / 64 / 256 ≡ n / 16384 = div-div-eq-div-mul n 64 256 in
-    let third : n / 16384 / 256 ≡ n / 4194304 = div-div-eq-div-mul n 16384 256 in
-    omega arith
+pub nonce-back : (n : ℕ) → wordFrom (n / 4194304) (n / 16384 % 256) (n / 64 % 256) (n % 64 * 4 + 0) / 4 ≡ n
+nonce-back n = omega (arith, word-again n 0)
 
 pub written : (routers : List Router) → RoutersInRange routers → Spells routers (spelled routers) × Bytes (spelled routers)
 unfolding spelled
 written [] r = (no-record, λ i. lit< tt)
 written (Knowing ceiling fresh ∷ routers) r =
     let w = written routers (r .1) in (
-      record-2 ceiling fresh (fresh / 4194304) (fresh / 16384 % 256) (fresh / 64 % 256) (fresh % 64 * 4) routers (spelled routers) (r .0 .0) (word-back fresh) (w .0),
+      record-2 ceiling fresh (fresh / 4194304) (fresh / 16384 % 256) (fresh / 64 % 256) (fresh % 64 * 4 + 0) routers (spelled routers) (r .0 .0) (nonce-back fresh) (w .0),
       bytes-append (recordOf (Knowing ceiling fresh)) (spelled routers) (record-bytes (Knowing ceiling fresh) (r .0)) (w .1),
     )
 written (Silent ∷ routers) r =

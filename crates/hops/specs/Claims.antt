@@ -1,6 +1,6 @@
 -- What is claimed of rows, summaries and verdicts beyond the contracts: which bytes are a row and of which routers, what a summary counts, joining, and the order of a verdict's tests.
 -- Kinds, lengths and ranges are the paper's numbers. Assumes nothing.
-use Prim.Native.Nat.{ℕ, suc, _+_, _*_, _/_, _%_, _≤_, _<_, min}
+use Prim.Native.Nat.{ℕ, suc, _+_, _*_, _/_, _≤_, _<_, min}
 use mathlib.Core.Bool.{true}
 use mathlib.Core.List.{List, [], _∷_, _++_, List·Permᴰ}
 use mathlib.Core.Path.{_≡_}
@@ -10,7 +10,7 @@ use Rattle.refusals.specs.Reply.{Reply, answer, refuse, andThen}
 use Rattle.hops.specs.declared.Router.{Router}
 use Rattle.hops.specs.declared.Router.the-variants.{Knowing, Silent}
 use Rattle.hops.specs.declared.Summary.{Summary}
-use Rattle.hops.specs.Rows.{rowOf}
+use Rattle.hops.specs.Rows.{recordOf, rowOf}
 use Rattle.hops.specs.Summaries.{summaryOf, summaryInRange, summaryReply, joined, joinReply}
 use Rattle.hops.specs.Verdicts.{Verdict, lost, unanswered, notAccepted, accepted, verdictReply}
 
@@ -32,11 +32,7 @@ abbrev pub RoutersInRange : List Router → Type 0
 RoutersInRange [] = Unit {0}
 RoutersInRange (router ∷ rest) = RouterInRange router × RoutersInRange rest
 
--- a spelling of routers in range, with reserved bits of 0
-abbrev pub recordOf : Router → List ℕ
-recordOf (Knowing ceiling fresh) = 2 ∷ ceiling ∷ fresh / 4194304 ∷ fresh / 16384 % 256 ∷ fresh / 64 % 256 ∷ fresh % 64 * 4 ∷ []
-recordOf Silent = 3 ∷ []
-
+-- a spelling of routers in range, record by record
 unfoldable pub spelled : List Router → List ℕ
 spelled [] = []
 spelled (router ∷ rest) = recordOf router ++ spelled rest

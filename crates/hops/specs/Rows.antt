@@ -8,6 +8,7 @@ use lib.ListN.{length, getD, drop}
 use Rattle.common.specs.Choice.{pick}
 use Rattle.refusals.specs.Reply.{Reply, answer, refuse}
 use Rattle.rates.specs.Steps.{topCode}
+use Rattle.options.specs.Wire.{wordFrom, wordBytes}
 use Rattle.hops.specs.declared.Router.{Router}
 use Rattle.hops.specs.declared.Router.the-variants.{Knowing, Silent}
 
@@ -32,12 +33,14 @@ unfoldable pub lengthOf : Router → ℕ
 lengthOf (Knowing ceiling fresh) = knowingLength
 lengthOf Silent = silentLength
 
--- "a 32-bit big-endian word", by its bytes; the nonce is its upper 30 bits
-abbrev pub wordFrom : ℕ → ℕ → ℕ → ℕ → ℕ
-wordFrom a b c d = a * 16777216 + b * 65536 + c * 256 + d
-
+-- the nonce in the word at a place
 abbrev pub nonceAt : ℕ → List ℕ → ℕ
 nonceAt place bytes = wordFrom (getD bytes place 0) (getD bytes (place + 1) 0) (getD bytes (place + 2) 0) (getD bytes (place + 3) 0) / 4
+
+-- the record of a router, with reserved bits of 0
+abbrev pub recordOf : Router → List ℕ
+recordOf (Knowing ceiling fresh) = knowingKind ∷ ceiling ∷ wordBytes fresh 0
+recordOf Silent = silentKind ∷ []
 
 -- a whole record of kind 2 whose ceiling is "at most 15"
 unfoldable pub isKnowing : List ℕ → Bool

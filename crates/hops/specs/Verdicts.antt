@@ -5,6 +5,7 @@ use lib.Dec.{leb, ltb, eqb}
 use Rattle.common.specs.Choice.{pick, within}
 use Rattle.refusals.specs.Reply.{Reply, answer, refuse}
 use Rattle.rates.specs.Steps.{topCode}
+use Rattle.options.specs.Wire.{topTtl}
 use Rattle.hops.specs.declared.Summary.{Summary}
 use Rattle.hops.specs.Summaries.{summaryInRange}
 
@@ -30,7 +31,7 @@ verdictOf s ttl code ceiling =
 
 -- "starting IP TTL 1 to 255", "a code asked of sender or ledger 1 to 15", "ceilings 0 to 15"
 unfoldable pub verdictInRange : ℕ → ℕ → ℕ → Bool
-verdictInRange ttl code ceiling = within 1 ttl 255 && within 1 code topCode && leb ceiling topCode
+verdictInRange ttl code ceiling = within 1 ttl topTtl && within 1 code topCode && leb ceiling topCode
 
 -- 7 outside the ranges
 abbrev pub verdictReply : Summary → ℕ → ℕ → ℕ → Reply Verdict

@@ -4,11 +4,13 @@ ghost use mathlib.Core.Path.{_≡_};
 ghost use Prim.Native.Nat.{_+_, _*_, _/_, _≤_, _<_};
 ghost use lib.ListN.{length, drop};
 ghost use Rattle.rates.specs.Steps.{topCode};
-ghost use Rattle.hops.specs.Rows.{mostRouters, wordFrom, frontOf, lengthOf, hopsFrom};
+ghost use Rattle.options.specs.Wire.{wordFrom};
+ghost use Rattle.hops.specs.Rows.{mostRouters, frontOf, lengthOf, hopsFrom};
 ghost use Rattle.hops.specs.Summaries.{joined, summaryOf, summaryInRange, summaryReply, joinReply};
 ghost use Rattle.hops.specs.Verdicts.{verdictInRange, verdictOf, verdictReply};
 ghost use Rattle.hops.specs.Parts.{one};
 ghost use Rattle.hops.specs.Replies.{frontTold, summaryTold, verdictTold, verdictAnswerTold};
+use options::word_from;
 use rates::TOP_CODE;
 use rates::lesser;
 use refusals::Refusal;
@@ -78,11 +80,11 @@ pub enum VerdictAnswer {
 pub fn nonce_of(a: u8, b: u8, c: u8, d: u8) -> u32
     ensures { λ r. ⌜ r ≡ wordFrom a b c d / 4 ⌝ }
 {
-    let word = a as u32 * 16777216 + b as u32 * 65536 + c as u32 * 256 + d as u32;
-    word / 4
+    word_from(a, b, c, d) / 4
 }
 
-fn wide(byte: u8) -> u32
+// A byte as a number.
+pub fn wide(byte: u8) -> u32
     ensures { λ r. ⌜ r ≡ byte ⌝ }
 {
     byte as u32

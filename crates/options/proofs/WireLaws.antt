@@ -11,7 +11,7 @@ use Rattle.common.specs.Lists.{Bytes}
 use Rattle.common.proofs.Choice.{both-true}
 use Rattle.common.proofs.Lists.{written-out, bytes-each}
 use Rattle.rates.specs.Steps.{topCode}
-use Rattle.options.specs.Wire.{optionLength, nonceLimit, fieldsFit, optionBytes, kindIn, lengthIn, ttlIn, wordOf, nonceIn, reservedIn}
+use Rattle.options.specs.Wire.{optionLength, nonceLimit, fieldsFit, optionBytes, kindIn, lengthIn, ttlIn, wordFrom, wordOf, nonceIn, reservedIn}
 
 pub record Fit (len code nonce : ℕ) : Type 0 where
   pub len-is : len ≡ optionLength
@@ -26,13 +26,16 @@ fit-facts len code nonce e =
     record { len-is = eqb-true len optionLength (inner .0); code-high = leb-true code topCode (inner .1); nonce-small = ltb-true nonce nonceLimit (outer .1) }
 
 -- the word reads back
+pub word-again : (nonce reserved : ℕ) → wordFrom (nonce / 4194304) (nonce / 16384 % 256) (nonce / 64 % 256) (nonce % 64 * 4 + reserved) ≡ nonce * 4 + reserved
+word-again nonce reserved = omega arith
+
 pub word-back : (kind rate ttl nonce reserved : ℕ) → wordOf (optionBytes kind rate ttl nonce reserved) ≡ nonce * 4 + reserved
 unfolding wordOf optionBytes
-word-back kind rate ttl nonce reserved = omega arith
+word-back kind rate ttl nonce reserved = word-again nonce reserved
 
 -- four bytes make a word, and the bytes of its nonce and reserved bits are those four
 word-bytes : (a b c d : ℕ) → b < 256 → c < 256 → d < 256
-    → let w = a * 16777216 + b * 65536 + c * 256 + d in
+    → let w = wordFrom a b c d in
     (w / 4 / 4194304 ≡ a) × (w / 4 / 16384 % 256 ≡ b) × (w / 4 / 64 % 256 ≡ c) × (w / 4 % 64 * 4 + w % 4 ≡ d)
 word-bytes a b c d hb hc hd = (omega arith, omega arith, omega arith, omega arith)
 

@@ -16,14 +16,24 @@ optionLength = 8
 abbrev pub nonceLimit : ℕ
 nonceLimit = 2 ^ 30
 
+-- "starting IP TTL 1 to 255"
+abbrev pub topTtl : ℕ
+topTtl = 255
+
 -- what has a range where an option is written: the buffer's length, the rate code ("codes written or read .. 0 to 15") and the nonce
 unfoldable pub fieldsFit : ℕ → ℕ → ℕ → Bool
 fieldsFit len code nonce = eqb len optionLength && leb code topCode && ltb nonce nonceLimit
 
--- the eight bytes of an option: its kind, its length, the rate code under four bits of 0, the TTL's byte, and then the "32-bit big-endian word: 30 bits of nonce
--- above 2 reserved bits"
+-- "a 32-bit big-endian word: 30 bits of nonce above 2 reserved bits": the word of four bytes, and the four bytes of a nonce and reserved bits
+abbrev pub wordFrom : ℕ → ℕ → ℕ → ℕ → ℕ
+wordFrom a b c d = a * 16777216 + b * 65536 + c * 256 + d
+
+abbrev pub wordBytes : ℕ → ℕ → List ℕ
+wordBytes nonce reserved = nonce / 4194304 ∷ nonce / 16384 % 256 ∷ nonce / 64 % 256 ∷ (nonce % 64 * 4 + reserved) ∷ []
+
+-- the eight bytes of an option: its kind, its length, the rate code under four bits of 0, the TTL's byte, and then the word
 unfoldable pub optionBytes : ℕ → ℕ → ℕ → ℕ → ℕ → List ℕ
-optionBytes kind rate ttl nonce reserved = kind ∷ 8 ∷ rate ∷ ttl ∷ nonce / 4194304 ∷ nonce / 16384 % 256 ∷ nonce / 64 % 256 ∷ (nonce % 64 * 4 + reserved) ∷ []
+optionBytes kind rate ttl nonce reserved = kind ∷ 8 ∷ rate ∷ ttl ∷ wordBytes nonce reserved
 
 -- an option written anew, "Reserved bits are written 0": its eight bytes, or 7 for a length, code or nonce outside its range
 abbrev pub optionWritten : ℕ → List ℕ → ℕ → ℕ → ℕ → Reply (List ℕ)
@@ -46,7 +56,7 @@ abbrev pub ttlIn : List ℕ → ℕ
 ttlIn option = getD option 3 0
 
 unfoldable pub wordOf : List ℕ → ℕ
-wordOf option = getD option 4 0 * 16777216 + getD option 5 0 * 65536 + getD option 6 0 * 256 + getD option 7 0
+wordOf option = wordFrom (getD option 4 0) (getD option 5 0) (getD option 6 0) (getD option 7 0)
 
 abbrev pub nonceIn : List ℕ → ℕ
 nonceIn option = wordOf option / 4

@@ -3,7 +3,7 @@
 ghost use mathlib.Core.Path.{_≡_};
 ghost use Prim.Native.Nat.{_<_};
 ghost use lib.ListN.{length, getD};
-ghost use Rattle.options.specs.Wire.{optionLength, nonceLimit, wordOf, optionBytes, optionWritten, fieldsFit, rateIn, ttlIn, nonceIn};
+ghost use Rattle.options.specs.Wire.{optionLength, nonceLimit, wordFrom, wordOf, optionBytes, optionWritten, fieldsFit, rateIn, ttlIn, nonceIn};
 ghost use Rattle.options.specs.Replies.{writtenTold};
 ghost use Rattle.refusals.specs.Reply.{leaves, done};
 use rates::TOP_CODE;
@@ -56,16 +56,24 @@ fn fields_fit(len: usize, code: u32, nonce: u32) -> bool
     nonce < NONCE_LIMIT
 }
 
+// The word of four bytes, the highest first.
+pub fn word_from(a: u8, b: u8, c: u8, d: u8) -> u32
+    ensures { λ r. ⌜ r ≡ wordFrom a b c d ⌝ }
+{
+    a as u32 * 16_777_216 + b as u32 * 65_536 + c as u32 * 256 + d as u32
+}
+
 // The word of the last four bytes: the nonce above two reserved bits.
 fn word_of(option: &[u8]) -> u32
     requires { ⌜ length (now option) ≡ optionLength ⌝ }
     ensures { λ r. ⌜ r ≡ wordOf (now (option .entry)) ⌝ }
 {
-    let a = byte_at(option, WORD);
-    let b = byte_at(option, WORD + 1);
-    let c = byte_at(option, WORD + 2);
-    let d = byte_at(option, WORD + 3);
-    a * 16_777_216 + b * 65_536 + c * 256 + d
+    word_from(
+        option[WORD],
+        option[WORD + 1],
+        option[WORD + 2],
+        option[WORD + 3],
+    )
 }
 
 // The three fields that a request and a response share the places of.

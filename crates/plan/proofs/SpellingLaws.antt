@@ -1,5 +1,5 @@
 -- Every run in range can be spelled, and what bytes spell is in range: the claim Spelling. Assumes nothing.
-use Prim.Native.Nat.{ℕ, _*_, _/_, _%_, _<_}
+use Prim.Native.Nat.{ℕ, _+_, _*_, _/_, _%_, _<_}
 use mathlib.Core.List.{List, [], _∷_, _++_}
 use mathlib.Core.Path.{_≡_, refl, ap, subst, _∙_}
 use native.Mathlib.Omega.{arith}
@@ -7,8 +7,9 @@ use lib.ListN.{length}
 use lib.Seq.{take-append-seam}
 use Rattle.common.specs.Lists.{Bytes}
 use Rattle.common.proofs.Lists.{bytes-each, bytes-append, bytes-part}
+use Rattle.options.specs.Wire.{wordBytes}
 use Rattle.hops.specs.Claims.{spelled}
-use Rattle.hops.proofs.SpellLaws.{word-back}
+use Rattle.hops.proofs.SpellLaws.{nonce-back}
 use Rattle.hops.proofs.Claims.{rows}
 use Rattle.plan.specs.Records.{Plan}
 use Rattle.plan.specs.Claims.{SpellsRun, PlanInRange, spelledRun, Spelling}
@@ -18,7 +19,7 @@ use Rattle.plan.specs.Claims.{SpellsRun, PlanInRange, spelledRun, Spelli
 written : (limit : ℕ) (p : Plan) → PlanInRange limit p → SpellsRun limit p (spelledRun p) × Bytes (spelledRun p)
 written limit p r =
     let n = p .nonce in
-    let request : List ℕ = 1 ∷ p .code ∷ p .ttl ∷ p .qs ∷ n / 4194304 ∷ n / 16384 % 256 ∷ n / 64 % 256 ∷ n % 64 * 4 ∷ [] in
+    let request : List ℕ = 1 ∷ p .code ∷ p .ttl ∷ p .qs ∷ wordBytes n 0 in
     let receiver : List ℕ = 4 ∷ p .ceiling ∷ [] in
     let row = rows .written (p .routers) (r .routers-in) in (
       record {
@@ -31,11 +32,11 @@ written limit p r =
             a = n / 4194304;
             b = n / 16384 % 256;
             c = n / 64 % 256;
-            d = n % 64 * 4;
+            d = n % 64 * 4 + 0;
             code-low = r .code-low;
             code-high = r .code-high;
             ttl-low = r .ttl-low;
-            nonce-is = word-back n;
+            nonce-is = nonce-back n;
             bytes-are = refl;
           };
           row-is = row .0;

@@ -1,12 +1,13 @@
 -- What is claimed of the program's input and its line: which inputs spell a run, where a bad one breaks, that no more than so many bytes need be read, and what the line says of a path
 -- and tells of the input.
 -- Kinds, lengths and ranges are the paper's numbers. Assumes nothing.
-use Prim.Native.Nat.{ℕ, _+_, _-_, _*_, _/_, _%_, _≤_, _<_}
+use Prim.Native.Nat.{ℕ, _+_, _-_, _*_, _/_, _≤_, _<_}
 use mathlib.Core.List.{List, [], _∷_, _++_}
 use mathlib.Core.Logic.{_⊎_}
 use mathlib.Core.Path.{_≡_}
 use lib.ListN.{length, take}
 use Rattle.common.specs.Lists.{Bytes}
+use Rattle.options.specs.Wire.{wordBytes}
 use Rattle.hops.specs.declared.Router.{Router}
 use Rattle.hops.specs.Summaries.{summaryOf}
 use Rattle.hops.specs.Verdicts.{Verdict, lost, unanswered, notAccepted, accepted, verdictOf}
@@ -68,7 +69,7 @@ pub record PlanInRange (limit : ℕ) (p : Plan) : Type 0 where
 -- a spelling of a run, with reserved bits of 0
 abbrev pub spelledRun : Plan → List ℕ
 spelledRun p =
-    (1 ∷ p .code ∷ p .ttl ∷ p .qs ∷ p .nonce / 4194304 ∷ p .nonce / 16384 % 256 ∷ p .nonce / 64 % 256 ∷ p .nonce % 64 * 4 ∷ [])
+    (1 ∷ p .code ∷ p .ttl ∷ p .qs ∷ wordBytes (p .nonce) 0)
     ++ (spelled (p .routers) ++ (4 ∷ p .ceiling ∷ []))
 
 -- every run in range can be spelled, in bytes; and what bytes spell is in range

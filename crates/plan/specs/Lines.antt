@@ -5,7 +5,7 @@ use lib.Dec.{ltb}
 use lib.ListN.{take}
 use Rattle.common.specs.Choice.{pick}
 use Rattle.connection.specs.Records.{freshWith}
-use Rattle.sender.specs.Calls.{wish, transport}
+use Rattle.sender.specs.Calls.{Wish, wish, Transport, transport, Sending}
 use Rattle.hops.specs.Verdicts.{Verdict, lost, unanswered, notAccepted, accepted}
 use Rattle.path.specs.Runs.{pathCalls, blank}
 use Rattle.path.specs.Demands.{Setting, verdictBy, plain}
@@ -30,17 +30,27 @@ segment = 1460
 abbrev pub headers : ℕ
 headers = 40
 
+abbrev pub ownTransport : Transport
+ownTransport = transport roundTrip segment headers
+
+-- what it asks for, and what that asking leaves
+abbrev pub wishFor : ℕ → ℕ → ℕ → ℕ → Wish
+wishFor code ttl qs nonce = wish code ttl qs nonce roundTrip 0
+
+abbrev pub askedFor : ℕ → ℕ → ℕ → ℕ → Sending
+askedFor code ttl qs nonce = pathCalls .ask (freshWith window ssthresh) (wishFor code ttl qs nonce) blank .left
+
 -- what the run of a plan is given: a fresh record that asks, and the plain packet with what it wrote
 abbrev pub givenFor : Plan → Setting
 givenFor p =
-    let w = wish (p .code) (p .ttl) (p .qs) (p .nonce) roundTrip 0 in
+    let left = askedFor (p .code) (p .ttl) (p .qs) (p .nonce) in
     record {
       connection = freshWith window ssthresh;
-      wish = w;
+      wish = wishFor (p .code) (p .ttl) (p .qs) (p .nonce);
       buffer = blank;
-      packet = plain (p .ttl) (pathCalls .ask (freshWith window ssthresh) w blank .left .request);
-      waiting = pathCalls .ask (freshWith window ssthresh) w blank .left .connection;
-      transport = transport roundTrip segment headers;
+      packet = plain (p .ttl) (left .request);
+      waiting = left .connection;
+      transport = ownTransport;
       ceiling = p .ceiling;
       routers = p .routers;
     }

@@ -16,6 +16,7 @@ use hops::Verdict;
 use hops::VerdictAnswer;
 use hops::nonce_of;
 use hops::survey;
+use hops::wide;
 use ipv4::write_checksum;
 use path::run;
 use rates::TOP_CODE;
@@ -28,12 +29,6 @@ pub struct Text {
 }
 
 // ---- the line
-
-fn wide(byte: u8) -> u32
-    ensures { λ r. ⌜ r ≡ byte ⌝ }
-{
-    byte as u32
-}
 
 // A text with one byte more.
 fn with_byte(text: Text, byte: u8) -> Text

@@ -68,7 +68,7 @@ routedByLedger reach ceiling fresh tick p =
     answer (passage (put (p .packet) (routedView (g .code) fresh v)) (g .link))))))
     (refuse 7)
 
--- the call: what it says, and what it leaves; "A refusal leaves packet, row and tick as they were"
+-- the call: what it says, and what it leaves; a refusal leaves packet, row and tick as they were
 abbrev pub ledgerRouter : ℕ → ℕ → ℕ → Passage → Outcome (Unit {0}) Passage
 ledgerRouter ceiling fresh tick p = record {
   said = done (routedByLedger (length (p .packet)) ceiling fresh tick p);

@@ -1,4 +1,4 @@
--- Demand 3 of the calls over a row of hop records, and the calls that it shuts out. Which rows are read, and that the two forms agree, stands in RowClaims; the calls for C in ResultClaims.
+-- Demand 3 of the calls over a row of hop records, and the calls that it shuts out. Which rows are read, the two calls, and that the two forms agree, stand in RowClaims; the calls for C in ResultClaims.
 -- Assumes nothing.
 use Prim.Native.Nat.{ℕ, _+_, _≤_}
 use mathlib.Core.List.{List, [], _∷_, _++_}
@@ -36,12 +36,12 @@ use Rattle.path.specs.Claims.{AllKnow, Passable, leastAlong, Cut, whole, summed
 use Rattle.path.proofs.Claims.{pathLaw}
 use Rattle.path.proofs.RunClaims.{callLaw}
 use Rattle.plan.specs.Records.{Plan}
-use Rattle.plan.specs.Lines.{givenFor}
+use Rattle.plan.specs.Lines.{ownTransport, givenFor}
 use Rattle.plan.specs.Claims.{PlanInRange}
 use Rattle.plan.proofs.RunPathLaws.{demanded}
 use Rattle.rows.specs.declared.Hop.{Hop}
 use Rattle.rows.specs.Rows.{routerOf, routersOf, hopInRange, allInRange, hopsSummary, hopsCall}
-use Rattle.rows.specs.Results.{openFor, ownTransport}
+use Rattle.rows.specs.Results.{openFor}
 use Rattle.rows.specs.Claims.{HopInRange, HopsInRange, knowingHop, silentHop, HopRunning, HopCut, part, both, wholeHops, summedHops, Lent, saidOver, HopLaw, butLast, allKnowing, firstHop, noFresh, runOn, ShutOutBy, HopShutOut}
 use Rattle.rows.proofs.RowClaims.{routers-long, routers-in, agreeing}
 

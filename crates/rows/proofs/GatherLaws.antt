@@ -18,9 +18,9 @@ use Rattle.rates.specs.Steps.{topCode}
 use Rattle.options.specs.Wire.{nonceLimit}
 use Rattle.hops.specs.declared.Router.{Router}
 use Rattle.hops.specs.declared.Router.the-variants.{Knowing, Silent}
-use Rattle.hops.specs.Rows.{mostRouters, lengthOf, rowOf}
-use Rattle.hops.specs.Claims.{Spells, no-record, record-2, record-3, recordOf}
-use Rattle.hops.proofs.SpellLaws.{word-back, together}
+use Rattle.hops.specs.Rows.{mostRouters, lengthOf, recordOf, rowOf}
+use Rattle.hops.specs.Claims.{Spells, no-record, record-2, record-3}
+use Rattle.hops.proofs.SpellLaws.{nonce-back, together}
 use Rattle.hops.proofs.Claims.{rows}
 use Rattle.rows.specs.declared.Hop.{Hop}
 use Rattle.rows.specs.declared.Spelled.{Spelled}
@@ -142,7 +142,7 @@ record-spells hop h = by-knowledge (hop .knows)
   where
     by-knowledge : (k : Bool) → Spells (pick k (Knowing (hop .ceiling) (hop .fresh)) Silent ∷ []) (recordOf (pick k (Knowing (hop .ceiling) (hop .fresh)) Silent))
     by-knowledge true =
-        record-2 (hop .ceiling) (hop .fresh) (hop .fresh / 4194304) (hop .fresh / 16384 % 256) (hop .fresh / 64 % 256) (hop .fresh % 64 * 4) [] [] h (word-back (hop .fresh)) no-record
+        record-2 (hop .ceiling) (hop .fresh) (hop .fresh / 4194304) (hop .fresh / 16384 % 256) (hop .fresh / 64 % 256) (hop .fresh % 64 * 4 + 0) [] [] h (nonce-back (hop .fresh)) no-record
     by-knowledge false = record-3 [] [] no-record
 
 record-long : (router : Router) → length (recordOf router) ≡ lengthOf router

@@ -38,10 +38,10 @@ use Rattle.path.specs.Claims.{Demanded, InRanges, Starts, Arises}
 use Rattle.path.proofs.PathLaws.{given, sent}
 use Rattle.path.proofs.RunClaims.{either-ranges, running}
 use Rattle.path.proofs.Claims.{pathLaw}
-use Rattle.plan.specs.Lines.{window, ssthresh}
+use Rattle.plan.specs.Lines.{window, ssthresh, ownTransport}
 use Rattle.rows.specs.declared.Hop.{Hop}
 use Rattle.rows.specs.Rows.{routersOf, hopsCall}
-use Rattle.rows.specs.Results.{summaryLent, openFor, ownTransport, verdictResult}
+use Rattle.rows.specs.Results.{summaryLent, openFor, verdictResult}
 use Rattle.rows.specs.Claims.{Lent, Numbered, CanBe, ForC}
 use Rattle.rows.proofs.RowClaims.{routers-long, IsRow, either-row, agreeing, hopCalls}
 use Rattle.rows.proofs.Claims.{hopLaw}

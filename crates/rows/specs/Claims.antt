@@ -21,9 +21,10 @@ use Rattle.hops.specs.Claims.{Spells, RoutersInRange, spelled}
 use Rattle.path.specs.Runs.{pathCalls, Journey, journey, runCall}
 use Rattle.path.specs.Demands.{Setting, verdictBy}
 use Rattle.path.specs.Claims.{Demanded, Passable, leastAlong}
+use Rattle.plan.specs.Lines.{ownTransport}
 use Rattle.rows.specs.declared.Hop.{Hop}
 use Rattle.rows.specs.Rows.{routersOf, hopsRow, hopsSummary, hopsCall}
-use Rattle.rows.specs.Results.{summaryLent, summaryResult, openFor, ownTransport, verdictResult}
+use Rattle.rows.specs.Results.{summaryLent, summaryResult, openFor, verdictResult}
 
 -- ---- rows
 

@@ -8,8 +8,7 @@ use lib.Seq.{sets}
 use Rattle.common.specs.Choice.{pick}
 use Rattle.refusals.specs.Reply.{Reply, refuse}
 use Rattle.hops.specs.declared.Router.{Router}
-use Rattle.hops.specs.Rows.{mostRouters, knowingLength, lengthOf, rowOf}
-use Rattle.hops.specs.Claims.{recordOf}
+use Rattle.hops.specs.Rows.{mostRouters, knowingLength, lengthOf, recordOf, rowOf}
 use Rattle.rows.specs.declared.Hop.{Hop}
 use Rattle.rows.specs.declared.Spelled.{Spelled}
 use Rattle.rows.specs.Rows.{routerOf, hopInRange}

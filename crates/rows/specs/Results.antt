@@ -9,10 +9,9 @@ use Rattle.refusals.specs.Reply.{Reply, answer, refuse, andThen}
 use Rattle.connection.specs.declared.State.the-variants.{Asked}
 use Rattle.connection.specs.declared.Connection.{Connection}
 use Rattle.connection.specs.Records.{freshWith, withState}
-use Rattle.sender.specs.Calls.{Transport, transport}
 use Rattle.hops.specs.declared.Summary.{Summary}
 use Rattle.hops.specs.Verdicts.{Verdict, lost, unanswered, notAccepted, accepted}
-use Rattle.plan.specs.Lines.{window, ssthresh, roundTrip, segment, headers}
+use Rattle.plan.specs.Lines.{window, ssthresh}
 
 -- ---- the summary of a row
 
@@ -26,12 +25,9 @@ summaryResult (refuse n) = n
 
 -- ---- the run of a path
 
--- a connection of our own whose request is open, and the T, MSS and H of the program
+-- the program's own connection, with this request open; the T, MSS and H are the program's too (`ownTransport`)
 abbrev pub openFor : ℕ → ℕ → ℕ → Connection
 openFor code diff nonce = withState (freshWith window ssthresh) (Asked (record { code = code; «ttl_diff» = diff; nonce = nonce }))
-
-abbrev pub ownTransport : Transport
-ownTransport = transport roundTrip segment headers
 
 -- 42 for lost, 40 for unanswered, 200 more than the sender's refusal, 100 more than the rate accepted; a refused run its refusal. A rate that arises is at most 15, its own remainder
 abbrev pub verdictResult : Reply Verdict → ℕ

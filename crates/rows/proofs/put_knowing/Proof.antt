@@ -1,5 +1,6 @@
 -- `rows::put_knowing` meets its contract. Assumes nothing.
 use Prim.Native.Nat.{_*_, _/_, _%_}
+use native.Mathlib.Nat.{add-zero}
 use Rattle.rows.proofs.GatherLaws.{six-stores}
 use borrow.Author.Needs.{needs}
 use Rattle.rows.proofs.put_knowing.Statement.{statement}
@@ -59,7 +60,7 @@ array-write-bytes-6 c = search needs
 returns : tie.Need-returns
 returns c =
     let a = c .args in
-    six-stores (a .t1) (a .at) 2 (a .ceiling) (a .fresh / 4194304) (a .fresh / 16384 % 256) (a .fresh / 64 % 256) (a .fresh % 64 * 4)
+    simp (add-zero (a .fresh % 64 * 4)) (six-stores (a .t1) (a .at) 2 (a .ceiling) (a .fresh / 4194304) (a .fresh / 16384 % 256) (a .fresh / 64 % 256) (a .fresh % 64 * 4))
 
 pub put-knowing-spec : {M : Type 1} → statement M
 put-knowing-spec =

@@ -51,10 +51,10 @@ use Rattle.path.specs.declared.Ran.{Ran}
 use Rattle.path.specs.Runs.{Journey, journey, callOver}
 use Rattle.path.proofs.Ran as R
 use Rattle.path.proofs.Ran.Laws as R′
-use Rattle.plan.specs.Lines.{roundTrip, segment, headers}
+use Rattle.plan.specs.Lines.{roundTrip, segment, headers, ownTransport}
 use Rattle.rows.specs.declared.Hop.{Hop}
 use Rattle.rows.specs.Rows.{hopsRow}
-use Rattle.rows.specs.Results.{openFor, ownTransport, verdictResult}
+use Rattle.rows.specs.Results.{openFor, verdictResult}
 use Rattle.rows.proofs.Hop as T
 use Rattle.rows.proofs.open_for as open-for
 use Rattle.rows.proofs.open_for.Symbol as open-for-def
