@@ -7,8 +7,7 @@
 #include "quickstart_path.h"
 #include "quickstart_path.h" /* the guard lets it be included twice */
 
-#include <stdio.h>
-#include <string.h>
+#include "report.h"
 
 /* These do not compile unless the prototypes have exactly these types. */
 static uint32_t (*const summary_of)(const struct qs_hop *, size_t, uint32_t *, size_t) = qs_path_summary;
@@ -21,34 +20,8 @@ static uint32_t (*const run)(uint8_t *, size_t, const struct qs_hop *, size_t, u
 
 #define ONES 0x3FFFFFFFu /* the greatest nonce */
 
-/* IP TTL 64, a request for code 5 with QS TTL 128 and nonce 0, and two bytes of data. */
-static const uint8_t original[30] = {0x47, 0x00, 0x00, 0x1C, 0x00, 0x00, 0x00, 0x00, 0x40, 0x06,
-                                     0x46, 0x52, 0x0A, 0x00, 0x00, 0x01, 0x0A, 0x00, 0x00, 0x02,
-                                     0x19, 0x08, 0x05, 0x80, 0x00, 0x00, 0x00, 0x00, 0xAA, 0x55};
-
-/* The TTL Diff of that packet: 64 - 128 modulo 256. */
+/* The TTL Diff of report.h's packet: 64 - 128 modulo 256. */
 static const uint8_t diff = 192;
-
-static unsigned passed, failed;
-
-static void test(const char *name, int holds)
-{
-    printf("%s %s\n", holds ? "ok    " : "FAILED", name);
-    if (holds)
-        passed++;
-    else
-        failed++;
-}
-
-/* Whether the packet is the original with these bytes from byte 8 and from byte 22 on. */
-static int is(const uint8_t *packet, const char *ttl_to_checksum, const char *option)
-{
-    uint8_t expected[30];
-    memcpy(expected, original, 30);
-    memcpy(expected + 8, ttl_to_checksum, 4);
-    memcpy(expected + 22, option, 6);
-    return memcmp(packet, expected, 30) == 0;
-}
 
 /* The original sent along a row to a receiver with ceiling 15, for the sender that sent it. */
 static uint32_t along(uint8_t *packet, const struct qs_hop *row, size_t hops)
@@ -238,6 +211,5 @@ int main(void)
     judged();
     refusals();
     both_archives();
-    printf("%u passed, %u failed\n", passed, failed);
-    return failed != 0 || passed == 0;
+    return finish();
 }
