@@ -21,7 +21,7 @@
  *         if (r == QS_TTL_EXPIRED) { send_time_exceeded(p, n); continue; }
  *         if (r != QS_DONE) { count_refusal(r); continue; }    // p is as it came
  *         if (queue_is_long() && qs_mark(p, n) == QS_DROP) continue;
- *         send(p, n);
+ *         send(p, p[2] << 8 | p[3]);           // the total length; n may be greater
  *     }
  *
  * What is changed, and when. A result of QS_DONE says that the work is done and the buffers hold
@@ -85,12 +85,13 @@ extern "C" {
 
 /* The sender's refusals. No function of this header returns them; quickstart_path.h adds the last three
    to QS_NOT_ACCEPTED. */
-#define QS_REQUEST_OPEN 10        /* a request is open, or was made less than a round trip ago */
+#define QS_REQUEST_OPEN 10        /* a request or a Quick-Start window is open, or the last request was made
+                                     less than a round trip ago */
 #define QS_WRONG_STATE 11         /* there is no request, or no Quick-Start window, to act upon */
 #define QS_NOT_A_RESPONSE 12      /* not the TCP option of kind 27 and length 8 */
 #define QS_RATE_WRONG 13          /* the reported rate is 0 or above the one asked for */
 #define QS_TTL_DIFF_WRONG 14      /* some router on the path did not take part */
-#define QS_NONCE_WRONG 15         /* the nonce is not the one sent: somebody raised the rate */
+#define QS_NONCE_WRONG 15         /* the nonce is not the one sent, as when somebody raised the rate */
 
 /*
  * Forward a packet as a router that knows Quick-Start.
@@ -133,7 +134,8 @@ uint32_t qs_router(uint8_t *packet, size_t len, uint32_t ceiling, uint32_t fresh
  *   - the slots of the ticks after *tick up to `now` become 0, and *tick becomes `now`;
  *   - the grant is the greatest code, at most the one asked for, whose rate is at most the allowance
  *     less the sum of the row; it is 0 if there is none;
- *   - the grant's rate is added to row[now % slots] (nothing for 0).
+ *   - the grant's rate is added to row[now % slots] (nothing for 0). It stays there for as many ticks as
+ *     there are slots, even if the packet is dropped after the call.
  * QS_DONE: the packet is as qs_router leaves it with the grant in place of the ceiling. If the ledger
  * is not asked, row and *tick are unchanged and the packet is as qs_router leaves it.
  *

@@ -40,7 +40,7 @@
  *     else
  *         printf("refused: %u\n", r);                   // trial is as it was
  *
- * Here r is 214 if the packet outlasts three routers: QS_NOT_ACCEPTED and QS_TTL_DIFF_WRONG, since the
+ * Here r is 214 if the IP TTL is above three: QS_NOT_ACCEPTED and QS_TTL_DIFF_WRONG, since the
  * second router is silent.
  *
  * What is changed, and when. A result of 1 to 15 is a refusal of quickstart.h's list: the call was

@@ -140,17 +140,25 @@ fn examples(report: &mut Report, place: &Place) {
         let records = commands::run(Command::Records, &place.program, &name, &told).stdout;
         let canonical = commands::run(Command::Text, &place.program, &name, &records).stdout;
         let again = commands::run(Command::Records, &place.program, &name, &canonical).stdout;
-        same(report, &format!("{stem}: records to text and back"), again, records.clone());
-        let fixed = commands::run(Command::Text, &place.program, &name, &records).stdout;
+        same(report, &format!("{stem}: records to text and back"), again.clone(), records);
+        let fixed = commands::run(Command::Text, &place.program, &name, &again).stdout;
         same(report, &format!("{stem}: the canonical text stays"), fixed, canonical);
     }
-    let explained = std::fs::read_to_string(folder.join("silent.explain")).unwrap_or_default();
-    let indented =
-        explained
-            .lines()
-            .map(|line| if line.is_empty() { "\n".into() } else { format!("    {line}\n") });
-    let readme = std::fs::read_to_string(place.root.join("planner/README.md")).unwrap_or_default();
-    report.test("the README shows silent.explain", readme.contains(&indented.collect::<String>()));
+    let told = std::fs::read(folder.join("relay.path")).unwrap_or_default();
+    let drawn = commands::run(Command::Svg, &place.program, "relay.path", &told).stdout;
+    same(report, "relay: --svg is relay.svg", Some(drawn), std::fs::read(folder.join("relay.svg")).ok());
+    shown(report, place, "planner/README.md", "silent.explain");
+    shown(report, place, "README.md", "lowering.explain");
+}
+
+/// Whether a page of the repository shows an example's explanation as the file has it.
+fn shown(report: &mut Report, place: &Place, page: &str, example: &str) {
+    let read = |name: &str| std::fs::read_to_string(place.root.join(name)).unwrap_or_default();
+    let explained = read(&format!("examples/paths/{example}"));
+    let indent = |line: &str| if line.is_empty() { "\n".into() } else { format!("    {line}\n") };
+    let indented: String = explained.lines().map(indent).collect();
+    let holds = !indented.is_empty() && read(page).contains(&indented);
+    report.test(&format!("{page} shows {example}"), holds);
 }
 
 /// Document 01's router on what a packet shows; nothing if it loses the packet. `router` is the ceiling and

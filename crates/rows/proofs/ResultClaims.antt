@@ -8,6 +8,7 @@ use native.Mathlib.Omega.{arith}
 use borrow.Author.Tests.{ne-eqb}
 use lib.ListN.{length}
 use Rattle.common.specs.Lists.{Bytes}
+use Rattle.common.proofs.Choice.{clash}
 use Rattle.refusals.specs.Reply.{Reply, answer, refuse, Outcome, refusing}
 use Rattle.refusals.proofs.ReplyLaws.{RefusedBy}
 use Rattle.options.specs.declared.request.Request.{Request}
@@ -22,6 +23,8 @@ use Rattle.ipv4.proofs.RefusalLaws.{view-by}
 use Rattle.ipv4.proofs.Claims.{viewing}
 use Rattle.connection.specs.declared.State.{State}
 use Rattle.connection.specs.declared.State.the-variants.{Idle, Asked, Quick}
+use Rattle.connection.specs.declared.OpenRequest.{OpenRequest}
+use Rattle.connection.specs.declared.Before.{Before}
 use Rattle.connection.specs.declared.Connection.{Connection}
 use Rattle.connection.specs.Claims.{InRange}
 use Rattle.connection.proofs.Claims.{fresh}
@@ -42,7 +45,7 @@ use Rattle.plan.specs.Lines.{window, ssthresh, ownTransport}
 use Rattle.rows.specs.declared.Hop.{Hop}
 use Rattle.rows.specs.Rows.{routersOf, hopsCall}
 use Rattle.rows.specs.Results.{summaryLent, openFor, verdictResult}
-use Rattle.rows.specs.Claims.{Lent, Numbered, CanBe, ForC}
+use Rattle.rows.specs.Claims.{Lent, Numbered, Tested, TestedOr11, CanBe, ForC}
 use Rattle.rows.proofs.RowClaims.{routers-long, IsRow, either-row, agreeing, hopCalls}
 use Rattle.rows.proofs.Claims.{hopLaw}
 
@@ -70,28 +73,33 @@ numbered = record {
 
 -- ---- the numbers apart
 
-apart : (a b : Reply Verdict) → CanBe a → CanBe b → verdictResult a ≡ verdictResult b → a ≡ b
+small : (n : ℕ) → TestedOr11 n → n ≤ 15
+small n (inl (inl h)) = omega (arith, h .1)
+small n (inl (inr e)) = omega (arith, e)
+small n (inr e) = omega (arith, e)
+
+apart : (a b : Reply Verdict) → CanBe TestedOr11 a → CanBe TestedOr11 b → verdictResult a ≡ verdictResult b → a ≡ b
 apart (refuse m) (refuse n) a b e = ap refuse e
-apart (refuse m) (answer lost) a b e = absurd (omega (arith, e, a .1))
-apart (refuse m) (answer unanswered) a b e = absurd (omega (arith, e, a .1))
-apart (refuse m) (answer (notAccepted n)) a b e = absurd (omega (arith, e, a .1))
-apart (refuse m) (answer (accepted n)) a b e = absurd (omega (arith, e, a .1))
-apart (answer lost) (refuse n) a b e = absurd (omega (arith, e, b .1))
+apart (refuse m) (answer lost) a b e = absurd (omega (arith, e, small m a))
+apart (refuse m) (answer unanswered) a b e = absurd (omega (arith, e, small m a))
+apart (refuse m) (answer (notAccepted n)) a b e = absurd (omega (arith, e, small m a))
+apart (refuse m) (answer (accepted n)) a b e = absurd (omega (arith, e, small m a))
+apart (answer lost) (refuse n) a b e = absurd (omega (arith, e, small n b))
 apart (answer lost) (answer lost) a b e = refl
 apart (answer lost) (answer unanswered) a b e = absurd (omega (arith, e))
 apart (answer lost) (answer (notAccepted n)) a b e = absurd (omega (arith, e))
 apart (answer lost) (answer (accepted n)) a b e = absurd (omega (arith, e))
-apart (answer unanswered) (refuse n) a b e = absurd (omega (arith, e, b .1))
+apart (answer unanswered) (refuse n) a b e = absurd (omega (arith, e, small n b))
 apart (answer unanswered) (answer lost) a b e = absurd (omega (arith, e))
 apart (answer unanswered) (answer unanswered) a b e = refl
 apart (answer unanswered) (answer (notAccepted n)) a b e = absurd (omega (arith, e))
 apart (answer unanswered) (answer (accepted n)) a b e = absurd (omega (arith, e))
-apart (answer (notAccepted m)) (refuse n) a b e = absurd (omega (arith, e, b .1))
+apart (answer (notAccepted m)) (refuse n) a b e = absurd (omega (arith, e, small n b))
 apart (answer (notAccepted m)) (answer lost) a b e = absurd (omega (arith, e))
 apart (answer (notAccepted m)) (answer unanswered) a b e = absurd (omega (arith, e))
 apart (answer (notAccepted m)) (answer (notAccepted n)) a b e = ap (λ (k : ℕ). answer (notAccepted k)) (omega (arith, e))
 apart (answer (notAccepted m)) (answer (accepted n)) a b e = absurd (omega (arith, e, b .1))
-apart (answer (accepted m)) (refuse n) a b e = absurd (omega (arith, e, b .1))
+apart (answer (accepted m)) (refuse n) a b e = absurd (omega (arith, e, small n b))
 apart (answer (accepted m)) (answer lost) a b e = absurd (omega (arith, e))
 apart (answer (accepted m)) (answer unanswered) a b e = absurd (omega (arith, e))
 apart (answer (accepted m)) (answer (notAccepted n)) a b e = absurd (omega (arith, e, a .1))
@@ -99,55 +107,62 @@ apart (answer (accepted m)) (answer (accepted n)) a b e = ap (λ (k : ℕ). answ
 
 -- ---- what a run over bytes can answer
 
-abbrev OfTable : ℕ → Type 0
-OfTable n = (1 ≤ n) × (n ≤ 15)
+module _ (P : ℕ → Type 0) (tested : (n : ℕ) → Tested n → P n) where
+  arisen : (routers : List Router) (packet : List ℕ) (v : Verdict) → Arises routers packet v → CanBe P (answer v)
+  arisen routers packet lost a = tt
+  arisen routers packet unanswered a = tt
+  arisen routers packet (notAccepted n) a = a
+  arisen routers packet (accepted rate) a = a
 
-arisen : (routers : List Router) (packet : List ℕ) (v : Verdict) → Arises routers packet v → CanBe (answer v)
-arisen routers packet lost a = tt
-arisen routers packet unanswered a = tt
-arisen routers packet (notAccepted n) a = a
-arisen routers packet (accepted rate) a = a
+  early : (n : ℕ) → 1 ≤ n → n ≤ 5 → P n
+  early n low high = tested n (inl (low, high))
 
-module _ (c : Connection) (packet row : List ℕ) (ceiling : ℕ) (t : Transport) (bytes : Bytes packet) (row-bytes : Bytes row) (routers : List Router) (e : rowOf 64 row ≡ answer routers) where
-  abbrev Can : Type 0
-  Can = CanBe (runCall 64 c packet row ceiling t .said)
+  module _ (c : Connection) (eleven : (c .state ≡ Idle) ⊎ ((b : Before) × (c .state ≡ Quick b)) → P 11) where
+    module _ (packet row : List ℕ) (ceiling : ℕ) (t : Transport) (bytes : Bytes packet) (row-bytes : Bytes row) (routers : List Router) (e : rowOf 64 row ≡ answer routers) where
+      abbrev Can : Type 0
+      Can = CanBe P (runCall 64 c packet row ceiling t .said)
 
-  by-refusal : (n : ℕ) → OfTable n → runCall 64 c packet row ceiling t ≡ refusing n (journey packet c) → Can
-  by-refusal n h r = subst CanBe (sym (ap (λ (o : Outcome Verdict Journey). o .said) r)) h
+      by-refusal : (n : ℕ) → P n → runCall 64 c packet row ceiling t ≡ refusing n (journey packet c) → Can
+      by-refusal n h r = subst (CanBe P) (sym (ap (λ (o : Outcome Verdict Journey). o .said) r)) h
 
-  module _ (g : InRanges c ceiling t) where
-    by-state : (r : Request) → view (length packet) packet ≡ answer (record { ttl = ipTtl packet; request = some r }) → (s : State) → c .state ≡ s → Can
-    by-state r v Idle f = by-refusal 11 (omega arith, omega arith) (running .tests .eleven-idle c packet row ceiling t routers (ipTtl packet) r e g v f)
-    by-state r v (Quick b) f = by-refusal 11 (omega arith, omega arith) (running .tests .eleven-quick c packet row ceiling t routers (ipTtl packet) r b e g v f)
-    by-state r v (Asked q) f =
-        let s : Starts c packet row ceiling t routers q (ipTtl packet) r = record { row-is = e; ranges = g; viewed = v; waits = f } in
-        subst CanBe (sym (ap (λ (o : Outcome Verdict Journey). o .said) (running .tests .starts c packet row ceiling t routers q (ipTtl packet) r s)))
-        (arisen routers packet (runBy pathCalls c t ceiling routers packet .verdict) (running .arises c packet row ceiling t routers q (ipTtl packet) r bytes row-bytes s))
+      module _ (g : InRanges c ceiling t) where
+        by-state : (r : Request) → view (length packet) packet ≡ answer (record { ttl = ipTtl packet; request = some r }) → (s : State) → c .state ≡ s → Can
+        by-state r v Idle f = by-refusal 11 (eleven (inl f)) (running .tests .eleven-idle c packet row ceiling t routers (ipTtl packet) r e g v f)
+        by-state r v (Quick b) f = by-refusal 11 (eleven (inr (b, f))) (running .tests .eleven-quick c packet row ceiling t routers (ipTtl packet) r b e g v f)
+        by-state r v (Asked q) f =
+            let s : Starts c packet row ceiling t routers q (ipTtl packet) r = record { row-is = e; ranges = g; viewed = v; waits = f } in
+            subst (CanBe P) (sym (ap (λ (o : Outcome Verdict Journey). o .said) (running .tests .starts c packet row ceiling t routers q (ipTtl packet) r s)))
+            (arisen routers packet (runBy pathCalls c t ceiling routers packet .verdict) (running .arises c packet row ceiling t routers q (ipTtl packet) r bytes row-bytes s))
 
-    by-request : (x : Option Request) → view (length packet) packet ≡ answer (record { ttl = ipTtl packet; request = x }) → Can
-    by-request none v = by-refusal 4 (omega arith, omega arith) (running .tests .four c packet row ceiling t routers (ipTtl packet) e g v)
-    by-request (some r) v = by-state r v (c .state) refl
+        by-request : (x : Option Request) → view (length packet) packet ≡ answer (record { ttl = ipTtl packet; request = x }) → Can
+        by-request none v = by-refusal 4 (early 4 (omega arith) (omega arith)) (running .tests .four c packet row ceiling t routers (ipTtl packet) e g v)
+        by-request (some r) v = by-state r v (c .state) refl
 
-    by-place : (x : Reply Place) → located (length packet) packet ≡ x → Can
-    by-place (refuse n) l =
-        by-refusal n (subst (RefusedBy OfTable) (viewing .refused (length packet) n packet l)
-        (view-by OfTable (omega arith, omega arith) (omega arith, omega arith) (omega arith, omega arith) (omega arith, omega arith) (length packet) packet))
-        (running .tests .faulty c packet row ceiling t routers n e g l)
-    by-place (answer place) l = by-request (requestAt place packet) (viewed-by (length packet) packet place l)
+        by-place : (x : Reply Place) → located (length packet) packet ≡ x → Can
+        by-place (refuse n) l =
+            by-refusal n (subst (RefusedBy P) (viewing .refused (length packet) n packet l)
+            (view-by P (early 1 (omega arith) (omega arith)) (early 2 (omega arith) (omega arith)) (early 3 (omega arith) (omega arith)) (early 5 (omega arith) (omega arith)) (length packet) packet))
+            (running .tests .faulty c packet row ceiling t routers n e g l)
+        by-place (answer place) l = by-request (requestAt place packet) (viewed-by (length packet) packet place l)
 
-  by-ranges : InRanges c ceiling t ⊎ (InRanges c ceiling t → ⊥) → Can
-  by-ranges (inl g) = by-place g (located (length packet) packet) refl
-  by-ranges (inr n) = by-refusal 7 (omega arith, omega arith) (running .tests .seven c packet row ceiling t routers e n)
+      by-ranges : InRanges c ceiling t ⊎ (InRanges c ceiling t → ⊥) → Can
+      by-ranges (inl g) = by-place g (located (length packet) packet) refl
+      by-ranges (inr n) = by-refusal 7 (tested 7 (inr refl)) (running .tests .seven c packet row ceiling t routers e n)
 
-module _ (c : Connection) (packet : List ℕ) (hops : List Hop) (ceiling : ℕ) (t : Transport) (bytes : Bytes packet) where
-  by-row : IsRow 64 hops ⊎ (IsRow 64 hops → ⊥) → CanBe (hopsCall 64 c packet hops ceiling t .said)
-  by-row (inl r) =
-      let row = spelled (routersOf hops) in
-      let w = agreeing .bytes hops (r .1) in
-      let few : length (routersOf hops) ≤ 64 = subst (λ (n : ℕ). n ≤ 64) (sym (routers-long hops)) (r .0) in
-      subst CanBe (sym (ap (λ (o : Outcome Verdict Journey). o .said) (agreeing .run 64 hops row (r .1) (w .0) c packet ceiling t)))
-      (by-ranges c packet row ceiling t bytes (w .1) (routersOf hops) (rows .reads 64 (routersOf hops) row (w .0) few) (either-ranges c ceiling t))
-  by-row (inr n) = subst CanBe (sym (ap (λ (o : Outcome Verdict Journey). o .said) (hopCalls .running .seven c packet hops ceiling t n))) (omega arith, omega arith)
+    module _ (packet : List ℕ) (hops : List Hop) (ceiling : ℕ) (t : Transport) (bytes : Bytes packet) where
+      by-row : IsRow 64 hops ⊎ (IsRow 64 hops → ⊥) → CanBe P (hopsCall 64 c packet hops ceiling t .said)
+      by-row (inl r) =
+          let row = spelled (routersOf hops) in
+          let w = agreeing .bytes hops (r .1) in
+          let few : length (routersOf hops) ≤ 64 = subst (λ (n : ℕ). n ≤ 64) (sym (routers-long hops)) (r .0) in
+          subst (CanBe P) (sym (ap (λ (o : Outcome Verdict Journey). o .said) (agreeing .run 64 hops row (r .1) (w .0) c packet ceiling t)))
+          (by-ranges packet row ceiling t bytes (w .1) (routersOf hops) (rows .reads 64 (routersOf hops) row (w .0) few) (either-ranges c ceiling t))
+      by-row (inr n) = subst (CanBe P) (sym (ap (λ (o : Outcome Verdict Journey). o .said) (hopCalls .running .seven c packet hops ceiling t n))) (tested 7 (inr refl))
+
+-- a record whose request is open is neither idle nor quick
+not-waiting : {A : Type 0} (q : OpenRequest) → (Asked q ≡ Idle) ⊎ ((b : Before) × (Asked q ≡ Quick b)) → A
+not-waiting q (inl e) = absurd (clash (cc))
+not-waiting q (inr (b, e)) = absurd (clash (cc))
 
 -- ---- the record that is made for C
 
@@ -219,7 +234,9 @@ module _ (g : Setting) (hops : List Hop) (l : Lent g hops) where
 
 pub forC : ForC
 forC = record {
-  can-be = λ c packet hops ceiling t bytes. by-row c packet hops ceiling t bytes (either-row 64 hops);
+  can-be = λ c packet hops ceiling t bytes. by-row TestedOr11 (λ n h. inl h) c (λ u. inr refl) packet hops ceiling t bytes (either-row 64 hops);
+  never-11 = λ code diff nonce packet hops ceiling t bytes.
+      by-row Tested (λ n h. h) (openFor code diff nonce) (not-waiting (record { code = code; «ttl_diff» = diff; nonce = nonce })) packet hops ceiling t bytes (either-row 64 hops);
   apart = apart;
   law = said-for-c;
   own-in = own-in;
