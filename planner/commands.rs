@@ -6,7 +6,7 @@ use crate::program::{self, Answer};
 use crate::records::{self, Record};
 use crate::svg;
 use crate::table;
-use crate::text::{self, Line};
+use crate::text::{self, Line, TextError};
 use crate::wrong::{self, Wrong};
 use std::path::Path;
 
@@ -16,6 +16,9 @@ pub const GOOD: u8 = 0;
 pub const WRONG: u8 = 1;
 pub const USAGE: u8 = 2;
 pub const FAULT: u8 = 3;
+
+/// So many lines that cannot be read are named; the others are only counted.
+const MOST_NAMED: usize = 20;
 
 #[derive(Clone, Copy, PartialEq, Eq, Debug)]
 pub enum Command {
@@ -61,11 +64,23 @@ impl Outcome {
     }
 }
 
+/// What is said of the lines that cannot be read. Some input is no text, but the records themselves.
+fn unreadable(name: &str, input: &[u8], errors: &[TextError]) -> String {
+    let named = errors.iter().take(MOST_NAMED);
+    let mut said: String = named.map(|error| format!("{name}:{error}\n")).collect();
+    said += &match errors.len().saturating_sub(MOST_NAMED) {
+        0 => String::new(),
+        1 => format!("{name}: 1 more line cannot be read\n"),
+        more => format!("{name}: {more} more lines cannot be read\n"),
+    };
+    if input.contains(&0) || errors.iter().any(|error| error.message == text::NOT_TEXT) {
+        said += "qsplan: if these are records, use --text\n";
+    }
+    said
+}
+
 fn read(name: &str, input: &[u8]) -> Result<Vec<Line>, Outcome> {
-    text::parse(input).map_err(|errors| {
-        let messages: String = errors.iter().map(|error| format!("{name}:{error}\n")).collect();
-        Outcome::wrong("", messages)
-    })
+    text::parse(input).map_err(|errors| Outcome::wrong("", unreadable(name, input, &errors)))
 }
 
 fn records_of(lines: &[Line]) -> Vec<Record> {

@@ -40,6 +40,15 @@ fn fields(from: u8, to: u8) -> String {
     }
 }
 
+/// What a receiver did: it may lower the rate too, but only in what it reports.
+fn answered(came: u8, reported: u8) -> String {
+    if came > reported {
+        format!("lowered {came} to {reported}; response sent")
+    } else {
+        "response sent".to_string()
+    }
+}
+
 fn event_name(stop: &Stop) -> String {
     match stop.event {
         Event::Sent => "request sent".to_string(),
@@ -53,7 +62,7 @@ fn event_name(stop: &Stop) -> String {
             format!("lost: IP TTL {ttl}, refusal {TTL_EXPIRED}")
         }
         Event::NotReached => "not reached".to_string(),
-        Event::Answered(_) => "response sent".to_string(),
+        Event::Answered(response) => answered(stop.view.map_or(0, |view| view.rate), response.rate),
         Event::Unanswered => "unanswered: the rate to report is 0".to_string(),
     }
 }

@@ -12,7 +12,7 @@ const ROWS: usize = 4_000;
 const BROKEN_ROWS: usize = 2_000;
 
 /// Texts and the bytes of their records, written by hand from document 01.
-const TEXTS: [(&str, &str, &str); 19] = [
+const TEXTS: [(&str, &str, &str); 21] = [
     (
         "document 01's whole case",
         "request rate=5 ttl=64 qs_ttl=128 nonce=0\nrouter ceiling=3 fresh=0x3FFFFFFF\nreceiver ceiling=15\n",
@@ -35,6 +35,8 @@ const TEXTS: [(&str, &str, &str); 19] = [
     ("comments behind records", "silent#silent\nsilent # silent\n", "03 03"),
     ("ends of lines with a carriage return", "silent\r\n\r\nreceiver ceiling=1\r\n", "03 04 01"),
     ("spaces and tabs", " \treceiver \t ceiling=2\t ", "04 02"),
+    ("a byte order mark at the start", "\u{FEFF}silent\nreceiver", "03 04 0F"),
+    ("a byte order mark before a comment", "\u{FEFF}# silent\r\nreceiver\r\n", "04 0F"),
     ("any order and number", "receiver\nreceiver\nsilent\nrequest", "04 0F 04 0F 03 01 0F 40 80 00 00 00 00"),
 ];
 

@@ -107,6 +107,12 @@ fn sentences(report: &mut Report, place: &Place) {
         ("request rate=4\nrouter ceiling=1\nreceiver", "fresh nonce fields 4-3 down to 2-1\n"),
         ("request rate=15\nrouter ceiling=13\nreceiver", "fresh nonce fields 15-14, 14-13\n"),
         ("request rate=2\nrouter ceiling=1\nreceiver", "fresh nonce field 2-1\n"),
+        ("request rate=5\nreceiver ceiling=2", "0x00000000  lowered 5 to 2; response sent\n"),
+        (
+            "request rate=5\nrouter ceiling=4 fresh=0\nreceiver ceiling=3",
+            "0x00000000  lowered 4 to 3; response sent\n",
+        ),
+        ("request rate=2\nreceiver ceiling=2", "0x00000000  response sent\n"),
     ];
     for (told, words) in cases {
         let outcome = commands::run(Command::Explain, &place.program, "it", told.as_bytes());

@@ -10,7 +10,7 @@ const SEED: u64 = 0x504C_414E_0000_0002;
 const PATHS: usize = 600;
 
 /// Texts with an error, the line it is in, and words of the message.
-const ERRORS: [(&str, usize, &str); 26] = [
+const ERRORS: [(&str, usize, &str); 41] = [
     ("rooter", 1, "`rooter` is no kind of record; the kinds are request, router, silent, receiver"),
     ("Request", 1, "`Request` is no kind of record"),
     ("# a comment\n\n\tsilent\nsilence # here\nreceiver", 4, "`silence` is no kind of record"),
@@ -35,13 +35,65 @@ const ERRORS: [(&str, usize, &str); 26] = [
     ("request rate=0x", 1, "rate=0x is not a number"),
     ("request rate=1F", 1, "rate=1F is not a number"),
     ("request rate=0X1F", 1, "rate=0X1F is not a number"),
-    ("request rate=256", 1, "rate=256 does not fit: rate is at most 255"),
-    ("\n\r\nrequest ttl=0x100", 3, "ttl=0x100 does not fit: ttl is at most 255"),
+    (
+        "request rate=256",
+        1,
+        "rate=256 does not fit: rate is 1 to 15 in a good path, and at most 255 in any",
+    ),
+    (
+        "\n\r\nrequest ttl=0x100",
+        3,
+        "ttl=0x100 does not fit: ttl is 1 to 255 in a good path, and at most 255 in any",
+    ),
+    (
+        "silent\nrouter ceiling=300",
+        2,
+        "ceiling=300 does not fit: ceiling is 0 to 15 in a good path, and at most 255 in any",
+    ),
+    (
+        "receiver ceiling=256",
+        1,
+        "ceiling=256 does not fit: ceiling is 0 to 15 in a good path, and at most 255 in any",
+    ),
+    ("request qs_ttl=256", 1, "qs_ttl=256 does not fit: qs_ttl is at most 255"),
     ("request nonce=0x40000000", 1, "nonce=0x40000000 does not fit: nonce is at most 1073741823"),
     ("router fresh=1073741824", 1, "fresh=1073741824 does not fit"),
     ("router reserved=4", 1, "reserved=4 does not fit: reserved is at most 3"),
     ("router fresh=99999999999999999999999999", 1, "does not fit: fresh is at most 1073741823"),
+    (
+        "request rate=5, ttl=3",
+        1,
+        "rate=5, is not a number: a number is decimal digits, or 0x and hexadecimal digits; \
+         keys are separated by spaces",
+    ),
+    ("request rate=5;ttl=3", 1, "hexadecimal digits; keys are separated by spaces"),
+    (
+        "request rate=5 , ttl=3",
+        1,
+        "`,` is not of the form key=number, without spaces around `=`; keys are separated by spaces",
+    ),
+    (
+        "receiver ,ceiling=3",
+        1,
+        "`,ceiling` is no key of `receiver`, which has ceiling; keys are separated by spaces",
+    ),
+    (
+        "silent\nrouter; ceiling=3",
+        2,
+        "`router;` is no kind of record; the kinds are request, router, silent, receiver; \
+         keys are separated by spaces",
+    ),
+    ("request rate=six # 5, or 6;", 1, "rate=six is not a number"),
+    ("\u{FEFF}solent", 1, "`solent` is no kind of record"),
+    ("silent\n\u{FEFF}silent", 2, "`\u{FEFF}silent` is no kind of record"),
+    ("\u{1B}[31mrouter", 1, "`?[31mrouter` is no kind of record"),
+    ("request \u{7F}", 1, "`?` is not of the form key=number"),
+    ("request \u{9B}rate=5", 1, "`?rate` is no key of `request`"),
+    ("receiver ceiling=\u{7}\u{8}5", 1, "ceiling=??5 is not a number"),
 ];
+
+const SPACES: &str = "; keys are separated by spaces";
+const RECORDS: &str = "qsplan: if these are records, use --text\n";
 
 /// Bad paths: the offset, the line that is named (none for a path with no line), and words of the reason.
 const BAD: [(&str, &str, usize, usize, &str); 23] = [
@@ -121,7 +173,7 @@ const BAD: [(&str, &str, usize, usize, &str); 23] = [
         "request\nsilent\nreceiver\nreceiver",
         11,
         4,
-        "the receiver stands behind the receiver of line 3",
+        "a second receiver; the path has one already, in line 3",
     ),
     (
         "a request behind the receiver",
@@ -159,7 +211,11 @@ fn text_errors(report: &mut Report, place: &Place) {
         let outcome = commands::run(Command::Line, &place.program, "it", told.as_bytes());
         let said =
             outcome.stderr.starts_with(&format!("it:{line}: ")) && outcome.stderr.contains(message);
-        let holds = said && outcome.stderr.lines().count() == 1 && silent_failure(&outcome, WRONG);
+        let raw = |letter: char| letter.is_control() && letter != '\n';
+        let clean = !outcome.stderr.contains(raw)
+            && outcome.stderr.lines().count() == 1
+            && outcome.stderr.contains(SPACES) == message.contains(SPACES);
+        let holds = said && clean && silent_failure(&outcome, WRONG);
         if !holds {
             println!("  found {outcome:?}");
         }
@@ -172,10 +228,58 @@ fn text_errors(report: &mut Report, place: &Place) {
         b"x\nsilent\n\nsilent y # z\nrouter \xFF\n",
     );
     let lines: Vec<&str> = outcome.stderr.lines().map(|line| &line[..5]).collect();
-    let holds = lines == ["it:1:", "it:4:", "it:5:"] && silent_failure(&outcome, WRONG);
+    let holds = lines == ["it:1:", "it:4:", "it:5:", "qspla"] && silent_failure(&outcome, WRONG);
     report.test("text errors: every wrong line is named, one that is not UTF-8 too", holds);
     let outcome = commands::run(Command::Records, &place.program, "it", b"silent # \xFF\xFE\n");
     report.test("a comment may hold any bytes", outcome.stdout == [3] && outcome.status == GOOD);
+}
+
+/// What is said of texts with so many wrong lines: the first twenty, and how many more there are; and of one
+/// long word, its front.
+fn many_errors(report: &mut Report, place: &Place) {
+    let outcome = commands::run(Command::Line, &place.program, "it", &[b'a'; 1_000]);
+    let holds = outcome.stderr == format!("it:1: `{} ..\n", "a".repeat(299));
+    report.test("text errors: a long word is cut off", holds);
+    for (count, end) in [
+        (20, ""),
+        (21, "it: 1 more line cannot be read\n"),
+        (22, "it: 2 more lines cannot be read\n"),
+        (5_000, "it: 4980 more lines cannot be read\n"),
+    ] {
+        let told = "silent\nsilent x\n".repeat(count);
+        let outcome = commands::run(Command::Line, &place.program, "it", told.as_bytes());
+        let message = "`x` is not of the form key=number, without spaces around `=`";
+        let named: String = (1..=20).map(|wrong| format!("it:{}: {message}\n", 2 * wrong)).collect();
+        let holds = outcome.stderr == named + end && silent_failure(&outcome, WRONG);
+        report.test(&format!("{count} wrong lines: twenty are named, the others counted"), holds);
+    }
+}
+
+/// Bytes that are no text: said what to do if they are records, at the very end and only then.
+fn records_as_text(report: &mut Report, place: &Place) {
+    let whole_case = [1, 5, 0x40, 0x80, 0, 0, 0, 0, 2, 3, 0xFF, 0xFF, 0xFF, 0xFC, 4, 15];
+    let late = ["x\n".repeat(30).as_bytes(), b"\xFF\n"].concat();
+    let cases: [(&str, &[u8], bool); 7] = [
+        ("document 01's whole case", &whole_case, true),
+        ("not UTF-8", b"silent\n\x03\xFF", true),
+        ("not UTF-8 behind thirty wrong lines", &late, true),
+        ("a zero byte", b"silent\n\x03\0\n", true),
+        ("a zero byte in a right line", b"silent # \0\nsolent\n", true),
+        ("a comment that is not UTF-8", b"silent # \xFF\nsolent\n", false),
+        ("a wrong kind", b"solent\n", false),
+    ];
+    for (name, told, hinted) in cases {
+        let says = |command: Command| {
+            let outcome = commands::run(command, &place.program, "it", told);
+            let count = outcome.stderr.matches(RECORDS).count();
+            outcome.stderr.ends_with(RECORDS) == hinted
+                && count == usize::from(hinted)
+                && silent_failure(&outcome, WRONG)
+        };
+        let holds = [Command::Line, Command::Explain, Command::Svg, Command::Records].map(says);
+        let said = if hinted { "--text is named" } else { "--text is not named" };
+        report.test(&format!("read as text: {name}: {said}"), holds == [true; 4]);
+    }
 }
 
 /// Nothing on standard output, and this status.
@@ -302,6 +406,8 @@ fn liars(report: &mut Report, place: &Place) {
 
 pub fn all(report: &mut Report, place: &Place) {
     text_errors(report, place);
+    many_errors(report, place);
+    records_as_text(report, place);
     bad_paths(report, place);
     slipped_paths(report, place);
     liars(report, place);

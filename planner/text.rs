@@ -30,26 +30,40 @@ enum Style {
 struct Key {
     name: &'static str,
     most: u32,
+    /// The least and the greatest number of a good path, where these are fewer than the numbers that fit.
+    good: Option<(u32, u32)>,
     default: u32,
     style: Style,
 }
 
 const NONCE_MOST: u32 = (1 << 30) - 1;
 
-const fn byte(name: &'static str, default: u32) -> Key {
-    Key { name, most: 255, default, style: Style::Decimal }
+/// So many letters of a message or a line are shown.
+const MOST_SHOWN: usize = 300;
+
+/// What some editors write at the start of a UTF-8 text. It is no part of the text.
+const BYTE_ORDER_MARK: &[u8] = b"\xEF\xBB\xBF";
+
+/// The message of a line that may be no text at all.
+pub const NOT_TEXT: &str = "this line is not UTF-8 text";
+
+const fn byte(name: &'static str, good: Option<(u32, u32)>, default: u32) -> Key {
+    Key { name, most: 255, good, default, style: Style::Decimal }
 }
 
 const fn nonce(name: &'static str, default: u32) -> Key {
-    Key { name, most: NONCE_MOST, default, style: Style::Hexadecimal }
+    Key { name, most: NONCE_MOST, good: None, default, style: Style::Hexadecimal }
 }
 
-const RESERVED: Key = Key { name: "reserved", most: 3, default: 0, style: Style::IfSet };
+const RATE: Key = byte("rate", Some((1, 15)), 15);
+const TTL: Key = byte("ttl", Some((1, 255)), 64);
+const QS_TTL: Key = byte("qs_ttl", None, 128);
+const CEILING: Key = byte("ceiling", Some((0, 15)), 15);
+const RESERVED: Key = Key { name: "reserved", most: 3, good: None, default: 0, style: Style::IfSet };
 
-const REQUEST_KEYS: [Key; 5] =
-    [byte("rate", 15), byte("ttl", 64), byte("qs_ttl", 128), nonce("nonce", 0), RESERVED];
-const ROUTER_KEYS: [Key; 3] = [byte("ceiling", 15), nonce("fresh", NONCE_MOST), RESERVED];
-const RECEIVER_KEYS: [Key; 1] = [byte("ceiling", 15)];
+const REQUEST_KEYS: [Key; 5] = [RATE, TTL, QS_TTL, nonce("nonce", 0), RESERVED];
+const ROUTER_KEYS: [Key; 3] = [CEILING, nonce("fresh", NONCE_MOST), RESERVED];
+const RECEIVER_KEYS: [Key; 1] = [CEILING];
 
 /// The four kinds: the word that starts the line, the kind's number and its keys.
 const KINDS: [(&str, u8, &[Key]); 4] = [
@@ -92,6 +106,26 @@ fn values(record: &Record) -> Vec<u32> {
     }
 }
 
+/// The numbers that a key may have, for a message.
+fn range(key: &Key) -> String {
+    let Key { name, most, .. } = key;
+    match key.good {
+        Some((from, to)) => {
+            format!("{name} is {from} to {to} in a good path, and at most {most} in any")
+        }
+        None => format!("{name} is at most {most}"),
+    }
+}
+
+/// What to add to the message about a word that was meant to end at a comma or semicolon.
+fn hint(word: &str) -> &'static str {
+    if word.contains([',', ';']) {
+        "; keys are separated by spaces"
+    } else {
+        ""
+    }
+}
+
 /// A number in decimal, or in hexadecimal behind `0x`.
 fn number(word: &str, key: &Key) -> Result<u32, String> {
     let (digits, radix) = match word.strip_prefix("0x") {
@@ -100,12 +134,12 @@ fn number(word: &str, key: &Key) -> Result<u32, String> {
     };
     if digits.is_empty() || !digits.chars().all(|digit| digit.is_digit(radix)) {
         let forms = "decimal digits, or 0x and hexadecimal digits";
-        return Err(format!("{}={word} is not a number: a number is {forms}", key.name));
+        return Err(format!("{}={word} is not a number: a number is {forms}{}", key.name, hint(word)));
     }
     // what does not even fit 64 bits is too great for every key
     let value = u64::from_str_radix(digits, radix).unwrap_or(u64::MAX);
     if value > u64::from(key.most) {
-        return Err(format!("{}={word} does not fit: {} is at most {}", key.name, key.name, key.most));
+        return Err(format!("{}={word} does not fit: {}", key.name, range(key)));
     }
     Ok(value as u32)
 }
@@ -118,13 +152,14 @@ fn numbers<'a>(
 ) -> Result<Vec<u32>, String> {
     let mut given: Vec<Option<u32>> = vec![None; keys.len()];
     for word in words {
-        let (name, value) = word
-            .split_once('=')
-            .ok_or(format!("`{word}` is not of the form key=number, without spaces"))?;
+        let (name, value) = word.split_once('=').ok_or(format!(
+            "`{word}` is not of the form key=number, without spaces around `=`{}",
+            hint(word)
+        ))?;
         let Some(at) = keys.iter().position(|key| key.name == name) else {
             let names: Vec<&str> = keys.iter().map(|key| key.name).collect();
             let has = if names.is_empty() { "no keys".to_string() } else { names.join(", ") };
-            return Err(format!("`{name}` is no key of `{kind}`, which has {has}"));
+            return Err(format!("`{name}` is no key of `{kind}`, which has {has}{}", hint(name)));
         };
         if given[at].is_some() {
             return Err(format!("`{name}` is given twice"));
@@ -137,35 +172,44 @@ fn numbers<'a>(
 /// The record of one line; nothing if the line is blank or a comment alone.
 fn read_line(line: &[u8]) -> Result<Option<Record>, String> {
     let told = line.split(|byte| *byte == b'#').next().unwrap_or(line);
-    let told = std::str::from_utf8(told).map_err(|_| "this line is not UTF-8 text".to_string())?;
+    let told = std::str::from_utf8(told).map_err(|_| NOT_TEXT.to_string())?;
     let mut words = told.split_ascii_whitespace();
     let Some(first) = words.next() else {
         return Ok(None);
     };
     let Some((name, kind, keys)) = KINDS.iter().find(|(name, _, _)| *name == first) else {
         let names = KINDS.map(|(name, _, _)| name).join(", ");
-        return Err(format!("`{first}` is no kind of record; the kinds are {names}"));
+        return Err(format!("`{first}` is no kind of record; the kinds are {names}{}", hint(first)));
     };
     let values = numbers(name, keys, words)?;
     Ok(Some(record(*kind, &values)))
 }
 
+/// A text as a message can show it: without control characters, and cut off if it is very long.
+fn printable(text: &str) -> String {
+    let mut letters = text.chars();
+    let front: String = letters.by_ref().take(MOST_SHOWN).collect();
+    let more = if letters.next().is_some() { " .." } else { "" };
+    front.replace(|letter: char| letter.is_control(), "?") + more
+}
+
 /// A line as a message can show it: no control characters, no spaces around it.
 fn shown(line: &[u8]) -> String {
     let text = String::from_utf8_lossy(line).replace('\t', " ");
-    text.trim().replace(|letter: char| letter.is_control(), "?")
+    printable(text.trim())
 }
 
 /// The lines that tell records. If any line cannot be read, all such lines and nothing else.
 pub fn parse(text: &[u8]) -> Result<Vec<Line>, Vec<TextError>> {
     let mut lines = Vec::new();
     let mut errors = Vec::new();
+    let text = text.strip_prefix(BYTE_ORDER_MARK).unwrap_or(text);
     for (index, line) in text.split(|byte| *byte == b'\n').enumerate() {
         let number = index + 1;
         match read_line(line) {
             Ok(Some(record)) => lines.push(Line { number, text: shown(line), record }),
             Ok(None) => {}
-            Err(message) => errors.push(TextError { number, message }),
+            Err(message) => errors.push(TextError { number, message: printable(&message) }),
         }
     }
     if errors.is_empty() {

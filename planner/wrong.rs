@@ -47,6 +47,14 @@ fn not_first(lines: &[Line]) -> String {
     }
 }
 
+/// Why a record cannot stand behind the receiver, which is in the line of a number.
+fn behind_receiver(record: &Record, number: usize) -> String {
+    if matches!(record, Record::Receiver { .. }) {
+        return format!("a second receiver; the path has one already, in line {number}");
+    }
+    format!("{} stands behind the receiver of line {number}, which ends the path", name(record))
+}
+
 /// What is wrong with the numbers of a record.
 fn out_of_range(record: &Record) -> Option<String> {
     let ceiling_fault = |ceiling: u8| {
@@ -77,8 +85,7 @@ fn reason(lines: &[Line], index: usize, before: &Before) -> Option<String> {
         return Some(not_first(lines));
     }
     if let Some(number) = before.receiver {
-        let what = name(record);
-        return Some(format!("{what} stands behind the receiver of line {number}, which ends the path"));
+        return Some(behind_receiver(record, number));
     }
     if index > 0 && is_request {
         return Some(format!("a second request; the path has one already, in line {}", lines[0].number));
