@@ -3,7 +3,7 @@ use Prim.Native.Nat.{ℕ, suc, _+_, _-_, _*_, _/_, _%_, _≤_, _<_}
 use mathlib.Core.Bool.{Bool, true, false}
 use mathlib.Core.List.{List}
 use mathlib.Core.Logic.{_⊎_, inl, inr, ⊎-elim}
-use mathlib.Core.Option.{none, some}
+use mathlib.Core.Option.{some}
 use mathlib.Core.Path.{_≡_, refl, sym, ap, ap₂, _∙_}
 use native.Mathlib.Omega.{arith}
 use borrow.Author.Tests.{eqb-true, eqb-false}
@@ -16,8 +16,7 @@ use Rattle.refusals.specs.Reply.{answer}
 use Rattle.refusals.proofs.ReplyLaws.{same-answer}
 use Rattle.options.specs.declared.request.Request.{Request}
 use Rattle.options.specs.Wire.{reservedIn}
-use Rattle.walk.specs.declared.Place.{Place}
-use Rattle.walk.specs.declared.Place.the-variants.{Nowhere, At}
+use Rattle.walk.specs.declared.Place.the-variants.{At}
 use Rattle.ipv4.specs.Headers.{wordAt, headerLength}
 use Rattle.ipv4.specs.Checksums.{allOnes, onesSum, withChecksum, sealed}
 use Rattle.ipv4.specs.Packets.{located}
@@ -27,7 +26,7 @@ use Rattle.ipv4.proofs.ChecksumLaws.{length-field, in-steps}
 use Rattle.ipv4.proofs.SealLaws.{field-others}
 use Rattle.ipv4.proofs.OptionLaws.{word-of}
 use Rattle.ipv4.proofs.Claims.{reading, locating, viewing}
-use Rattle.router.specs.Claims.{PassedOn, OutsideOption}
+use Rattle.router.specs.Claims.{PassedOn}
 
 -- ---- the checksum
 

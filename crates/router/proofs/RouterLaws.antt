@@ -38,7 +38,7 @@ use Rattle.inspect.proofs.SightLaws.{room-of, request-kept}
 use Rattle.router.specs.declared.Decision.{Decision}
 use Rattle.router.specs.declared.Decision.the-variants as Decisions
 use Rattle.router.specs.Decisions.{decided, denial, writtenBy, over}
-use Rattle.router.specs.Routers.{routerInRange, unexpired, routedView, routed, wishOf, ceilingFrom, Passage, passage, routedByLedger, ledgerRouter}
+use Rattle.router.specs.Routers.{routerInRange, unexpired, routedView, routed, wishOf, ceilingFrom, Passage, passage, routedByLedger}
 use Rattle.router.specs.Parts.{met, metView, ReadableWhere, decisionWritten}
 use Rattle.router.proofs.DecisionLaws.{in-range, ranges, decided-fits}
 

@@ -1,6 +1,5 @@
 -- `cases_gateway::sum` ends after 14 words; a sum with its carry added has 16 bits again. Assumes nothing.
 use Prim.Native.Nat.{_≤_, _<_, _-_}
-use native.Mathlib.Omega.{arith}
 use borrow.Author.Needs.{needs}
 use Rattle.cases_gateway.proofs.sum.Statement.{statement}
 use Rattle.cases_gateway.proofs.sum.Tie as tie
