@@ -45,7 +45,7 @@ use Rattle.plan.specs.Lines.{window, ssthresh, ownTransport}
 use Rattle.rows.specs.declared.Hop.{Hop}
 use Rattle.rows.specs.Rows.{routersOf, hopsCall}
 use Rattle.rows.specs.Results.{summaryLent, openFor, verdictResult}
-use Rattle.rows.specs.Claims.{Lent, Numbered, Tested, TestedOr11, CanBe, ForC}
+use Rattle.rows.specs.Claims.{Lent, Numbered, Refusable, RefusableOr11, CanBe, ForC}
 use Rattle.rows.proofs.RowClaims.{routers-long, IsRow, either-row, agreeing, hopCalls}
 use Rattle.rows.proofs.Claims.{hopLaw}
 
@@ -73,12 +73,12 @@ numbered = record {
 
 -- ---- the numbers apart
 
-small : (n : ℕ) → TestedOr11 n → n ≤ 15
+small : (n : ℕ) → RefusableOr11 n → n ≤ 15
 small n (inl (inl h)) = omega (arith, h .1)
 small n (inl (inr e)) = omega (arith, e)
 small n (inr e) = omega (arith, e)
 
-apart : (a b : Reply Verdict) → CanBe TestedOr11 a → CanBe TestedOr11 b → verdictResult a ≡ verdictResult b → a ≡ b
+apart : (a b : Reply Verdict) → CanBe RefusableOr11 a → CanBe RefusableOr11 b → verdictResult a ≡ verdictResult b → a ≡ b
 apart (refuse m) (refuse n) a b e = ap refuse e
 apart (refuse m) (answer lost) a b e = absurd (omega (arith, e, small m a))
 apart (refuse m) (answer unanswered) a b e = absurd (omega (arith, e, small m a))
@@ -107,7 +107,7 @@ apart (answer (accepted m)) (answer (accepted n)) a b e = ap (λ (k : ℕ). answ
 
 -- ---- what a run over bytes can answer
 
-module _ (P : ℕ → Type 0) (tested : (n : ℕ) → Tested n → P n) where
+module _ (P : ℕ → Type 0) (refusable : (n : ℕ) → Refusable n → P n) where
   arisen : (routers : List Router) (packet : List ℕ) (v : Verdict) → Arises routers packet v → CanBe P (answer v)
   arisen routers packet lost a = tt
   arisen routers packet unanswered a = tt
@@ -115,7 +115,7 @@ module _ (P : ℕ → Type 0) (tested : (n : ℕ) → Tested n → P n) where
   arisen routers packet (accepted rate) a = a
 
   early : (n : ℕ) → 1 ≤ n → n ≤ 5 → P n
-  early n low high = tested n (inl (low, high))
+  early n low high = refusable n (inl (low, high))
 
   module _ (c : Connection) (eleven : (c .state ≡ Idle) ⊎ ((b : Before) × (c .state ≡ Quick b)) → P 11) where
     module _ (packet row : List ℕ) (ceiling : ℕ) (t : Transport) (bytes : Bytes packet) (row-bytes : Bytes row) (routers : List Router) (e : rowOf 64 row ≡ answer routers) where
@@ -147,7 +147,7 @@ module _ (P : ℕ → Type 0) (tested : (n : ℕ) → Tested n → P n) where
 
       by-ranges : InRanges c ceiling t ⊎ (InRanges c ceiling t → ⊥) → Can
       by-ranges (inl g) = by-place g (located (length packet) packet) refl
-      by-ranges (inr n) = by-refusal 7 (tested 7 (inr refl)) (running .tests .seven c packet row ceiling t routers e n)
+      by-ranges (inr n) = by-refusal 7 (refusable 7 (inr refl)) (running .tests .seven c packet row ceiling t routers e n)
 
     module _ (packet : List ℕ) (hops : List Hop) (ceiling : ℕ) (t : Transport) (bytes : Bytes packet) where
       by-row : IsRow 64 hops ⊎ (IsRow 64 hops → ⊥) → CanBe P (hopsCall 64 c packet hops ceiling t .said)
@@ -157,7 +157,7 @@ module _ (P : ℕ → Type 0) (tested : (n : ℕ) → Tested n → P n) where
           let few : length (routersOf hops) ≤ 64 = subst (λ (n : ℕ). n ≤ 64) (sym (routers-long hops)) (r .0) in
           subst (CanBe P) (sym (ap (λ (o : Outcome Verdict Journey). o .said) (agreeing .run 64 hops row (r .1) (w .0) c packet ceiling t)))
           (by-ranges packet row ceiling t bytes (w .1) (routersOf hops) (rows .reads 64 (routersOf hops) row (w .0) few) (either-ranges c ceiling t))
-      by-row (inr n) = subst (CanBe P) (sym (ap (λ (o : Outcome Verdict Journey). o .said) (hopCalls .running .seven c packet hops ceiling t n))) (tested 7 (inr refl))
+      by-row (inr n) = subst (CanBe P) (sym (ap (λ (o : Outcome Verdict Journey). o .said) (hopCalls .running .seven c packet hops ceiling t n))) (refusable 7 (inr refl))
 
 -- a record whose request is open is neither idle nor quick
 not-waiting : {A : Type 0} (q : OpenRequest) → (Asked q ≡ Idle) ⊎ ((b : Before) × (Asked q ≡ Quick b)) → A
@@ -234,9 +234,9 @@ module _ (g : Setting) (hops : List Hop) (l : Lent g hops) where
 
 pub forC : ForC
 forC = record {
-  can-be = λ c packet hops ceiling t bytes. by-row TestedOr11 (λ n h. inl h) c (λ u. inr refl) packet hops ceiling t bytes (either-row 64 hops);
+  can-be = λ c packet hops ceiling t bytes. by-row RefusableOr11 (λ n h. inl h) c (λ u. inr refl) packet hops ceiling t bytes (either-row 64 hops);
   never-11 = λ code diff nonce packet hops ceiling t bytes.
-      by-row Tested (λ n h. h) (openFor code diff nonce) (not-waiting (record { code = code; «ttl_diff» = diff; nonce = nonce })) packet hops ceiling t bytes (either-row 64 hops);
+      by-row Refusable (λ n h. h) (openFor code diff nonce) (not-waiting (record { code = code; «ttl_diff» = diff; nonce = nonce })) packet hops ceiling t bytes (either-row 64 hops);
   apart = apart;
   law = said-for-c;
   own-in = own-in;

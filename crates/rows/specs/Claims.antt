@@ -199,11 +199,11 @@ pub record Numbered : Type 0 where
   pub other-buffer : (numbers : List ℕ) (reply : Reply Summary) → (length numbers ≡ 3 → ⊥) → summaryLent numbers reply ≡ refuse 7
 
 -- the refusals of a run: 1 to 5 and 7; and 11, for a record that waits for no response
-abbrev pub Tested : ℕ → Type 0
-Tested n = ((1 ≤ n) × (n ≤ 5)) ⊎ (n ≡ 7)
+abbrev pub Refusable : ℕ → Type 0
+Refusable n = ((1 ≤ n) × (n ≤ 5)) ⊎ (n ≡ 7)
 
-abbrev pub TestedOr11 : ℕ → Type 0
-TestedOr11 n = Tested n ⊎ (n ≡ 11)
+abbrev pub RefusableOr11 : ℕ → Type 0
+RefusableOr11 n = Refusable n ⊎ (n ≡ 11)
 
 -- what a run can answer: a refusal that is one of these; lost, unanswered, the sender's own 13, 14 or 15, or a rate
 abbrev pub CanBe : (ℕ → Type 0) → Reply Verdict → Type 0
@@ -215,10 +215,10 @@ CanBe Refusal (answer (accepted rate)) = (1 ≤ rate) × (rate ≤ 15)
 
 pub record ForC : Type 0 where
   -- every run over a packet of bytes answers one of these, and no two of them have the same number; over the record that is made for C there is no 11
-  pub can-be : (c : Connection) (packet : List ℕ) (hops : List Hop) (ceiling : ℕ) (t : Transport) → Bytes packet → CanBe TestedOr11 (hopsCall 64 c packet hops ceiling t .said)
+  pub can-be : (c : Connection) (packet : List ℕ) (hops : List Hop) (ceiling : ℕ) (t : Transport) → Bytes packet → CanBe RefusableOr11 (hopsCall 64 c packet hops ceiling t .said)
   pub never-11 : (code diff nonce : ℕ) (packet : List ℕ) (hops : List Hop) (ceiling : ℕ) (t : Transport) → Bytes packet
-      → CanBe Tested (hopsCall 64 (openFor code diff nonce) packet hops ceiling t .said)
-  pub apart : (a b : Reply Verdict) → CanBe TestedOr11 a → CanBe TestedOr11 b → verdictResult a ≡ verdictResult b → a ≡ b
+      → CanBe Refusable (hopsCall 64 (openFor code diff nonce) packet hops ceiling t .said)
+  pub apart : (a b : Reply Verdict) → CanBe RefusableOr11 a → CanBe RefusableOr11 b → verdictResult a ≡ verdictResult b → a ≡ b
   -- of a row in range the run over the record that is made for C says demand 3's verdict: its window, T, MSS and H do not matter
   pub law : (g : Setting) (hops : List Hop) → Lent g hops
       → hopsCall 64 (openFor (g .wish .code) (ttlDiff (g .wish .ttl) (g .wish .qs)) (g .wish .nonce)) (g .packet) hops (g .ceiling) ownTransport .said ≡ answer (verdictBy pathCalls g)
