@@ -1,14 +1,14 @@
 -- The claims of specs/Claims.antt: the round trips, from the laws of the eight bytes, and the lowering, from the laws of the nonce. Assumes nothing.
 use Prim.Native.Nat.{ℕ, _+_, _*_, _/_, _%_, _≤_, _<_}
-use mathlib.Core.Bool.{true, _&&_}
+use mathlib.Core.Bool.{true, false, _&&_}
 use mathlib.Core.List.{List}
 use mathlib.Core.Path.{_≡_, refl, sym, ap, _∙_}
 use native.Mathlib.Omega.{arith}
-use borrow.Author.Tests.{eq-eqb, le-leb, lt-ltb, eqb-true}
-use lib.Dec.{eqb}
+use borrow.Author.Tests.{eq-eqb, ne-eqb, le-leb, lt-ltb, eqb-true, leb-true, ltb-true}
+use lib.Dec.{eqb, leb, ltb}
 use lib.ListN.{length, getD}
 use Rattle.common.specs.Lists.{Bytes}
-use Rattle.common.proofs.Choice.{both-true}
+use Rattle.common.proofs.Choice.{both-true, untrue}
 use Rattle.refusals.specs.Reply.{answer}
 use Rattle.refusals.proofs.ReplyLaws.{passed, answered}
 use Rattle.rates.specs.Steps.{topCode}
@@ -17,7 +17,7 @@ use Rattle.options.specs.declared.response.Response.{Response}
 use Rattle.options.specs.Wire.{optionLength, nonceLimit, fieldsFit, optionBytes, optionWritten, kindIn, lengthIn, highHalf, rateIn, ttlIn, nonceIn, reservedIn}
 use Rattle.options.specs.Requests.{isRequest, requestRead, requestRewritten}
 use Rattle.options.specs.Responses.{ttlDiff, isResponse, responseRead}
-use Rattle.options.specs.Claims.{RequestRoundTrip, ResponseRoundTrip, TtlDiffs, Lowering, Agreeing}
+use Rattle.options.specs.Claims.{RequestRoundTrip, ResponseRoundTrip, TtlDiffs, Lowering, Agreeing, IsRequest, IsResponse, Writable, Refusing}
 use Rattle.options.proofs.WireLaws.{Fit, fit-facts, word-back, word-small, bytes-back}
 use Rattle.options.proofs.NonceLaws as nonces
 
@@ -184,3 +184,53 @@ lowering = nonces.lowering
 
 pub agreeing : Agreeing
 agreeing = nonces.agreeing
+
+-- ---- which refusal is given
+
+no-request : (option : List ℕ) → (IsRequest option → ⊥) → isRequest option ≡ false
+unfolding isRequest
+no-request option f = untrue _ (λ (e : eqb (kindIn option) 25 && eqb (lengthIn option) 8 && eqb (highHalf option) 0 ≡ true).
+    let outer = both-true (eqb (kindIn option) 25 && eqb (lengthIn option) 8) (eqb (highHalf option) 0) e in
+    let inner = both-true (eqb (kindIn option) 25) (eqb (lengthIn option) 8) (outer .0) in
+    f (record { kind-is = eqb-true _ _ (inner .0); length-is = eqb-true _ _ (inner .1); function-is = eqb-true _ _ (outer .1) }))
+
+no-response : (option : List ℕ) → (IsResponse option → ⊥) → isResponse option ≡ false
+unfolding isResponse
+no-response option f = untrue _ (λ (e : eqb (kindIn option) 27 && eqb (lengthIn option) 8 ≡ true).
+    let inner = both-true (eqb (kindIn option) 27) (eqb (lengthIn option) 8) e in
+    f (record { kind-is = eqb-true _ _ (inner .0); length-is = eqb-true _ _ (inner .1) }))
+
+unfit : (len rate nonce : ℕ) → (Writable len rate nonce → ⊥) → fieldsFit len rate nonce ≡ false
+unfit len rate nonce f = untrue (fieldsFit len rate nonce) (λ e.
+    let t = fit-facts len rate nonce e in
+    f (record { room-is = t .len-is; rate-high = t .code-high; nonce-high = t .nonce-small }))
+
+no-lowering : (old new nonce fresh : ℕ) → ((old ≤ 15) × (new ≤ 15) × (nonce < nonceLimit) × (fresh < nonceLimit) → ⊥)
+    → leb old topCode && leb new topCode && ltb nonce nonceLimit && ltb fresh nonceLimit ≡ false
+no-lowering old new nonce fresh f = untrue _ (λ (e : leb old topCode && leb new topCode && ltb nonce nonceLimit && ltb fresh nonceLimit ≡ true).
+    let three = both-true (leb old topCode && leb new topCode && ltb nonce nonceLimit) (ltb fresh nonceLimit) e in
+    let two = both-true (leb old topCode && leb new topCode) (ltb nonce nonceLimit) (three .0) in
+    let one = both-true (leb old topCode) (leb new topCode) (two .0) in
+    f (leb-true _ _ (one .0), leb-true _ _ (one .1), ltb-true _ _ (two .1), ltb-true _ _ (three .1)))
+
+no-comparison : (code a b : ℕ) → ((code ≤ 15) × (a < nonceLimit) × (b < nonceLimit) → ⊥) → leb code topCode && ltb a nonceLimit && ltb b nonceLimit ≡ false
+no-comparison code a b f = untrue _ (λ (e : leb code topCode && ltb a nonceLimit && ltb b nonceLimit ≡ true).
+    let two = both-true (leb code topCode && ltb a nonceLimit) (ltb b nonceLimit) e in
+    let one = both-true (leb code topCode) (ltb a nonceLimit) (two .0) in
+    f (leb-true _ _ (one .0), ltb-true _ _ (one .1), ltb-true _ _ (two .1)))
+
+pub refusing : Refusing
+refusing = record {
+  read-seven = λ option n. simp (ne-eqb (length option) optionLength n);
+  read-four = λ option l f. simp (eq-eqb (length option) optionLength l, no-request option f);
+  response-seven = λ option n. simp (ne-eqb (length option) optionLength n);
+  response-twelve = λ option l f. simp (eq-eqb (length option) optionLength l, no-response option f);
+  write-seven = λ old rate ttl nonce f. simp (unfit (length old) rate nonce f);
+  response-write-seven = λ old rate diff nonce f. simp (unfit (length old) rate nonce f);
+  rewrite-seven = λ old rate ttl nonce f. simp (unfit (length old) rate nonce f);
+  rewrite-four = λ old rate ttl nonce w f. simp (fit (length old) rate nonce (w .room-is) (w .rate-high) (w .nonce-high), no-request old f);
+  lower = λ old new nonce fresh o n a b. simp (le-leb old topCode o, le-leb new topCode n, lt-ltb nonce nonceLimit a, lt-ltb fresh nonceLimit b);
+  lower-seven = λ old new nonce fresh f. simp (no-lowering old new nonce fresh f);
+  compare = λ code a b c l r. simp (le-leb code topCode c, lt-ltb a nonceLimit l, lt-ltb b nonceLimit r);
+  compare-seven = λ code a b f. simp (no-comparison code a b f);
+}

@@ -1,19 +1,19 @@
 -- What is claimed of options and nonces beyond the contracts: what was written reads back, and what a lowering keeps. It speaks of the definitions that the contracts
 -- cite, and of a nonce's single fields. Assumes nothing.
-use Prim.Native.Nat.{ℕ, _+_, _*_, _%_, _≤_, _<_}
+use Prim.Native.Nat.{ℕ, _+_, _*_, _/_, _%_, _^_, _≤_, _<_}
 use mathlib.Core.Bool.{true}
 use mathlib.Core.List.{List}
 use mathlib.Core.Path.{_≡_}
-use lib.ListN.{length}
+use lib.ListN.{length, getD}
 use Rattle.common.specs.Lists.{Bytes}
-use Rattle.refusals.specs.Reply.{answer}
+use Rattle.refusals.specs.Reply.{answer, refuse}
 use Rattle.rates.specs.Steps.{topCode}
 use Rattle.options.specs.declared.request.Request.{Request}
 use Rattle.options.specs.declared.response.Response.{Response}
 use Rattle.options.specs.Wire.{optionLength, nonceLimit, optionBytes, highHalf, reservedIn}
 use Rattle.options.specs.Requests.{requestKind, requestRead, requestWritten, requestRewritten}
 use Rattle.options.specs.Responses.{ttlDiff, responseKind, responseRead, responseWritten}
-use Rattle.options.specs.Nonces.{fieldOf, fieldsUpTo, lowered, agree}
+use Rattle.options.specs.Nonces.{fieldOf, fieldsUpTo, lowered, loweredReply, agree, agreeReply}
 
 -- `old` is the buffer before a write, and `new` the eight bytes that an accepted write leaves
 pub record RequestRoundTrip : Type 0 where
@@ -81,3 +81,36 @@ pub record Agreeing : Type 0 where
   pub whole : (code a b : ℕ) → ((k : ℕ) → 1 ≤ k → k ≤ code → fieldOf k a ≡ fieldOf k b) → agree code a b ≡ true
   -- an honest lowering is no disagreement
   pub honest : (old new nonce fresh : ℕ) → new ≤ old → agree new nonce (lowered old new nonce fresh) ≡ true
+
+-- ---- which refusal is given, in the paper's numbers
+
+-- "type 25, length 8, function 0", and "kind 27, length 8"
+pub record IsRequest (option : List ℕ) : Type 0 where
+  pub kind-is : getD option 0 0 ≡ 25
+  pub length-is : getD option 1 0 ≡ 8
+  pub function-is : getD option 2 0 / 16 ≡ 0
+
+pub record IsResponse (option : List ℕ) : Type 0 where
+  pub kind-is : getD option 0 0 ≡ 27
+  pub length-is : getD option 1 0 ≡ 8
+
+-- "option buffers exactly 8 bytes", "codes written or read .. 0 to 15", "nonces below 2^30"
+pub record Writable (room rate nonce : ℕ) : Type 0 where
+  pub room-is : room ≡ 8
+  pub rate-high : rate ≤ 15
+  pub nonce-high : nonce < 2 ^ 30
+
+-- 7 before all else, then 4 or 12
+pub record Refusing : Type 0 where
+  pub read-seven : (option : List ℕ) → (length option ≡ 8 → ⊥) → requestRead option ≡ refuse 7
+  pub read-four : (option : List ℕ) → length option ≡ 8 → (IsRequest option → ⊥) → requestRead option ≡ refuse 4
+  pub response-seven : (option : List ℕ) → (length option ≡ 8 → ⊥) → responseRead option ≡ refuse 7
+  pub response-twelve : (option : List ℕ) → length option ≡ 8 → (IsResponse option → ⊥) → responseRead option ≡ refuse 12
+  pub write-seven : (old : List ℕ) (rate ttl nonce : ℕ) → (Writable (length old) rate nonce → ⊥) → requestWritten old rate ttl nonce ≡ refuse 7
+  pub response-write-seven : (old : List ℕ) (rate diff nonce : ℕ) → (Writable (length old) rate nonce → ⊥) → responseWritten old rate diff nonce ≡ refuse 7
+  pub rewrite-seven : (old : List ℕ) (rate ttl nonce : ℕ) → (Writable (length old) rate nonce → ⊥) → requestRewritten old rate ttl nonce ≡ refuse 7
+  pub rewrite-four : (old : List ℕ) (rate ttl nonce : ℕ) → Writable (length old) rate nonce → (IsRequest old → ⊥) → requestRewritten old rate ttl nonce ≡ refuse 4
+  pub lower : (old new nonce fresh : ℕ) → old ≤ 15 → new ≤ 15 → nonce < 2 ^ 30 → fresh < 2 ^ 30 → loweredReply old new nonce fresh ≡ answer (lowered old new nonce fresh)
+  pub lower-seven : (old new nonce fresh : ℕ) → ((old ≤ 15) × (new ≤ 15) × (nonce < 2 ^ 30) × (fresh < 2 ^ 30) → ⊥) → loweredReply old new nonce fresh ≡ refuse 7
+  pub compare : (code a b : ℕ) → code ≤ 15 → a < 2 ^ 30 → b < 2 ^ 30 → agreeReply code a b ≡ answer (agree code a b)
+  pub compare-seven : (code a b : ℕ) → ((code ≤ 15) × (a < 2 ^ 30) × (b < 2 ^ 30) → ⊥) → agreeReply code a b ≡ refuse 7

@@ -327,6 +327,11 @@ module _ (c : Connection) (ceiling : ℕ) (t : Transport) where
   left-taken said packet r e f =
       ap (λ (x : Reply (Unit {0})). arrived pathCalls c t ceiling x packet .left .connection) e ∙ ap (λ (x : Reply Report). concluded pathCalls c t packet x .left .connection) f
 
+  said-taken : (said : Reply (Unit {0})) (packet : List ℕ) (r : Response) (x : Reply ℕ) → said ≡ answer tt → pathCalls .receive ceiling packet ≡ answer (reported r)
+      → senderCalls .takeResponse c (responseAfter blank (answer (reported r))) t .said ≡ x → arrived pathCalls c t ceiling said packet .verdict ≡ saidOf x
+  said-taken said packet r x e f g =
+      ap (λ (x : Reply (Unit {0})). arrived pathCalls c t ceiling x packet .verdict) e ∙ ap (λ (x : Reply Report). concluded pathCalls c t packet x .verdict) f ∙ ap saidOf g
+
 pub leaving : Leaving
 leaving = record {
   nobody = λ packet. refl;
@@ -335,4 +340,12 @@ leaving = record {
   packet = λ c packet ceiling t routers. left-packet c ceiling t (pathCalls .travel routers packet .said) (pathCalls .travel routers packet .left);
   kept = λ c packet ceiling t routers e. kept c ceiling t (pathCalls .travel routers packet .said) (pathCalls .travel routers packet .left) e;
   taken = λ c packet ceiling t routers r e f. left-taken c ceiling t (pathCalls .travel routers packet .said) (pathCalls .travel routers packet .left) r e f;
+  knowing = λ ceiling fresh packet. refl;
+  silent = λ packet. refl;
+  is-lost = λ c packet ceiling t routers n e. ap (λ (x : Reply (Unit {0})). arrived pathCalls c t ceiling x (pathCalls .travel routers packet .left) .verdict) e;
+  is-unanswered = λ c packet ceiling t routers e f.
+      ap (λ (x : Reply (Unit {0})). arrived pathCalls c t ceiling x (pathCalls .travel routers packet .left) .verdict) e
+      ∙ ap (λ (x : Reply Report). concluded pathCalls c t (pathCalls .travel routers packet .left) x .verdict) f;
+  is-accepted = λ c packet ceiling t routers r rate e f g. said-taken c ceiling t (pathCalls .travel routers packet .said) (pathCalls .travel routers packet .left) r (answer rate) e f g;
+  is-refused = λ c packet ceiling t routers r n e f g. said-taken c ceiling t (pathCalls .travel routers packet .said) (pathCalls .travel routers packet .left) r (refuse n) e f g;
 }

@@ -17,6 +17,8 @@ use Rattle.ipv4.specs.Packets.{located}
 use Rattle.ipv4.specs.Views.{view}
 use Rattle.router.specs.Claims.{touchingNothing}
 use Rattle.router.specs.Traffic.{codeLeft}
+use Rattle.router.specs.Routers.{routed, silentlyRouted}
+use Rattle.receiver.specs.Reports as Reports
 use Rattle.receiver.specs.Reports.{reported, responseAfter}
 use Rattle.connection.specs.declared.OpenRequest.{OpenRequest}
 use Rattle.connection.specs.declared.Before.{Before}
@@ -225,6 +227,20 @@ pub record Leaving : Type 0 where
   pub taken : (c : Connection) (packet : List ℕ) (ceiling : ℕ) (t : Transport) (routers : List Router) (response : Response) → pathCalls .travel routers packet .said ≡ answer tt
       → pathCalls .receive ceiling (pathCalls .travel routers packet .left) ≡ answer (reported response)
       → runBy pathCalls c t ceiling routers packet .left .connection ≡ senderCalls .takeResponse c (responseAfter blank (answer (reported response))) t .left
+  -- each hop is the call of its kind, with the hop's own numbers
+  pub knowing : (ceiling fresh : ℕ) (packet : List ℕ) → hop (Knowing ceiling fresh) packet ≡ routed (length packet) ceiling fresh packet
+  pub silent : (packet : List ℕ) → hop Silent packet ≡ silentlyRouted (length packet) packet
+  -- the verdict of every run, whatever packet it starts from
+  pub is-lost : (c : Connection) (packet : List ℕ) (ceiling : ℕ) (t : Transport) (routers : List Router) (n : ℕ) → pathCalls .travel routers packet .said ≡ refuse n
+      → runBy pathCalls c t ceiling routers packet .verdict ≡ lost
+  pub is-unanswered : (c : Connection) (packet : List ℕ) (ceiling : ℕ) (t : Transport) (routers : List Router) → pathCalls .travel routers packet .said ≡ answer tt
+      → pathCalls .receive ceiling (pathCalls .travel routers packet .left) ≡ answer Reports.unanswered → runBy pathCalls c t ceiling routers packet .verdict ≡ unanswered
+  pub is-accepted : (c : Connection) (packet : List ℕ) (ceiling : ℕ) (t : Transport) (routers : List Router) (response : Response) (rate : ℕ) → pathCalls .travel routers packet .said ≡ answer tt
+      → pathCalls .receive ceiling (pathCalls .travel routers packet .left) ≡ answer (reported response)
+      → senderCalls .takeResponse c (responseAfter blank (answer (reported response))) t .said ≡ answer rate → runBy pathCalls c t ceiling routers packet .verdict ≡ accepted rate
+  pub is-refused : (c : Connection) (packet : List ℕ) (ceiling : ℕ) (t : Transport) (routers : List Router) (response : Response) (n : ℕ) → pathCalls .travel routers packet .said ≡ answer tt
+      → pathCalls .receive ceiling (pathCalls .travel routers packet .left) ≡ answer (reported response)
+      → senderCalls .takeResponse c (responseAfter blank (answer (reported response))) t .said ≡ refuse n → runBy pathCalls c t ceiling routers packet .verdict ≡ notAccepted n
 
 -- ---- demand 3 of the call, on bytes
 

@@ -1,14 +1,18 @@
 -- The claims of specs/Claims.antt, from the laws of the steps and of the window. Assumes nothing.
 use Prim.Native.Nat.{ℕ, _≤_}
-use mathlib.Core.Path.{sym}
+use mathlib.Core.Bool.{true, false}
+use mathlib.Core.Path.{_≡_, refl, sym}
 use mathlib.Core.Logic.{⊎-elim}
 use native.Mathlib.Nat.{le-refl, le-trans, not-le-of-lt}
 use native.Mathlib.Omega.{arith}
-use Rattle.common.proofs.Choice.{le-or-gt}
+use borrow.Author.Tests.{le-leb, lt-leb}
+use Rattle.common.specs.Choice.{within}
+use Rattle.common.proofs.Choice.{le-or-gt, untrue, both-true, within-low, within-high, in-within}
 use Rattle.rates.specs.Steps.{topCode, rateOf, roundedDown, roundedUp}
-use Rattle.rates.specs.Claims.{Increasing, RoundingDown, RoundingUp, Windows}
+use Rattle.rates.specs.Window.{transportInRange, windowInRange, windowBytes}
+use Rattle.rates.specs.Claims.{Increasing, RoundingDown, RoundingUp, Windows, WindowGiven, Ranges}
 use Rattle.rates.proofs.StepLaws as steps
-use Rattle.rates.proofs.WindowLaws.{window-rule}
+use Rattle.rates.proofs.WindowLaws.{window-rule, transport-facts}
 
 pub increasing : Increasing
 increasing = steps.increasing
@@ -47,3 +51,38 @@ roundingUp = record {
 
 pub windows : Windows
 windows = window-rule
+
+-- ---- which refusal is given
+
+in-ranges : (code rtt mss headers : ℕ) → WindowGiven code rtt mss headers → windowInRange code rtt mss headers ≡ true
+unfolding transportInRange
+in-ranges code rtt mss headers g =
+    simp (in-within 1 code 15 (g .code-low) (g .code-high), in-within 1 rtt 60000000 (g .rtt-low) (g .rtt-high), in-within 1 mss 65535 (g .mss-low) (g .mss-high), in-within 20 headers 120 (g .headers-low) (g .headers-high))
+
+out-of-ranges : (code rtt mss headers : ℕ) → (WindowGiven code rtt mss headers → ⊥) → windowInRange code rtt mss headers ≡ false
+out-of-ranges code rtt mss headers f = untrue (windowInRange code rtt mss headers) (λ e.
+    let r = both-true (within 1 code topCode) (transportInRange rtt mss headers) e in
+    let t = transport-facts rtt mss headers (r .1) in
+    f (record {
+      code-low = within-low 1 code topCode (r .0);
+      code-high = within-high 1 code topCode (r .0);
+      rtt-low = t .rtt-low;
+      rtt-high = t .rtt-high;
+      mss-low = t .mss-low;
+      mss-high = t .mss-high;
+      headers-low = t .headers-low;
+      headers-high = t .headers-high;
+    }))
+
+pub ranges : Ranges
+unfolding windowBytes
+ranges = record {
+  rate = λ code h. simp (le-leb code topCode h);
+  rate-seven = λ code h. simp (lt-leb code topCode h);
+  up = λ wish h. simp (le-leb 1 wish h);
+  up-seven = refl;
+  segments = λ code rtt mss headers g. simp (in-ranges code rtt mss headers g);
+  segments-seven = λ code rtt mss headers f. simp (out-of-ranges code rtt mss headers f);
+  bytes = λ code rtt mss headers g. simp (in-ranges code rtt mss headers g);
+  bytes-seven = λ code rtt mss headers f. simp (out-of-ranges code rtt mss headers f);
+}

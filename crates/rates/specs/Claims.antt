@@ -1,8 +1,9 @@
 -- What is claimed of rates, roundings and the window, beyond the contracts. Assumes nothing.
 use Prim.Native.Nat.{ℕ, _+_, _*_, _≤_, _<_, min}
 use mathlib.Core.Path.{_≡_}
-use Rattle.rates.specs.Steps.{topCode, rateOf, greatestUpTo, roundedDown, roundedUp, Greatest, Least}
-use Rattle.rates.specs.Window.{windowSegments}
+use Rattle.refusals.specs.Reply.{answer, refuse}
+use Rattle.rates.specs.Steps.{topCode, rateOf, rateReply, greatestUpTo, roundedDown, roundedUp, roundedUpReply, Greatest, Least}
+use Rattle.rates.specs.Window.{windowSegments, windowBytes, segmentsReply, bytesReply}
 
 -- a higher code has a higher rate
 abbrev pub Increasing : Type 0
@@ -31,3 +32,25 @@ pub record WindowRule (code rtt mss headers : ℕ) : Type 0 where
 
 abbrev pub Windows : Type 0
 Windows = (code rtt mss headers : ℕ) → 1 ≤ code → 1 ≤ mss → WindowRule code rtt mss headers
+
+-- "T 1 to 60,000,000 microseconds; MSS 1 to 65,535; H 20 to 120", and a code 1 to 15
+pub record WindowGiven (code rtt mss headers : ℕ) : Type 0 where
+  pub code-low : 1 ≤ code
+  pub code-high : code ≤ 15
+  pub rtt-low : 1 ≤ rtt
+  pub rtt-high : rtt ≤ 60000000
+  pub mss-low : 1 ≤ mss
+  pub mss-high : mss ≤ 65535
+  pub headers-low : 20 ≤ headers
+  pub headers-high : headers ≤ 120
+
+-- 7 for "a number .. outside its range", and for no other
+pub record Ranges : Type 0 where
+  pub rate : (code : ℕ) → code ≤ 15 → rateReply code ≡ answer (rateOf code)
+  pub rate-seven : (code : ℕ) → 15 < code → rateReply code ≡ refuse 7
+  pub up : (wish : ℕ) → 1 ≤ wish → roundedUpReply wish ≡ answer (roundedUp wish)
+  pub up-seven : roundedUpReply 0 ≡ refuse 7
+  pub segments : (code rtt mss headers : ℕ) → WindowGiven code rtt mss headers → segmentsReply code rtt mss headers ≡ answer (windowSegments code rtt mss headers)
+  pub segments-seven : (code rtt mss headers : ℕ) → (WindowGiven code rtt mss headers → ⊥) → segmentsReply code rtt mss headers ≡ refuse 7
+  pub bytes : (code rtt mss headers : ℕ) → WindowGiven code rtt mss headers → bytesReply code rtt mss headers ≡ answer (windowSegments code rtt mss headers * mss)
+  pub bytes-seven : (code rtt mss headers : ℕ) → (WindowGiven code rtt mss headers → ⊥) → bytesReply code rtt mss headers ≡ refuse 7
