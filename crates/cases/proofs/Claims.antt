@@ -1,23 +1,23 @@
 -- The claim of specs/Table.antt, by computing the test. Assumes nothing.
 use mathlib.Core.Path.{refl}
 use Rattle.common.specs.Choice.{within}
-use Rattle.rates.specs.Steps.{rateOf, greatestUpTo, roundedDown}
-use Rattle.rates.specs.Window.{transportInRange, windowSegments}
-use Rattle.options.specs.Wire.{fieldsFit, optionBytes, wordOf}
-use Rattle.options.specs.Nonces.{fieldsUpTo, lowered, agree}
-use Rattle.options.specs.Requests.{isRequest}
-use Rattle.options.specs.Responses.{ttlDiff, isResponse}
-use Rattle.walk.specs.Walks.{lengthFits, look, walkOn}
-use Rattle.ipv4.specs.Headers.{headerLength}
-use Rattle.ipv4.specs.Checksums.{onesAdd, onesSum, withChecksum, checksumOf, sealed}
-use Rattle.ipv4.specs.Checks.{wellFormed}
-use Rattle.router.specs.Decisions.{oneLess, decided}
-use Rattle.router.specs.Routers.{routerInRange}
-use Rattle.receiver.specs.Reports.{reportOn, receiverInRange}
-use Rattle.connection.specs.Records.{isBefore, stateInRange, bytesInRange, inRange}
-use Rattle.sender.specs.Calls.{askInRange, isBusy, isSoon, judged}
-use Rattle.congestion.specs.Echoes.{halved}
-use Rattle.congestion.specs.Phases.{isEarly, phaseInRange, isRecent, orGreater, pipeAck, validated, isValidated, isOver, startedAt, runOn}
+use Rattle.wire_rules.specs.Rates.Steps.{rateOf, greatestUpTo, roundedDown}
+use Rattle.wire_rules.specs.Rates.Window.{transportInRange, windowSegments}
+use Rattle.wire_rules.specs.Options.Wire.{fieldsFit, optionBytes, wordOf}
+use Rattle.wire_rules.specs.Options.Nonces.{fieldsUpTo, lowered, agree}
+use Rattle.wire_rules.specs.Options.Requests.{isRequest}
+use Rattle.wire_rules.specs.Options.Responses.{ttlDiff, isResponse}
+use Rattle.wire_rules.specs.Walk.Walks.{lengthFits, look, walkOn}
+use Rattle.wire_rules.specs.Ipv4.Headers.{headerLength}
+use Rattle.wire_rules.specs.Ipv4.Checksums.{onesAdd, onesSum, withChecksum, checksumOf, sealed}
+use Rattle.wire_rules.specs.Ipv4.Checks.{wellFormed}
+use Rattle.gateway_rules.specs.Router.Decisions.{oneLess, decided}
+use Rattle.gateway_rules.specs.Router.Routers.{routerInRange}
+use Rattle.gateway_rules.specs.Receiver.Reports.{reportOn, receiverInRange}
+use Rattle.sender_rules.specs.Connections.Records.{isBefore, stateInRange, bytesInRange, inRange}
+use Rattle.sender_rules.specs.Sender.Calls.{askInRange, isBusy, isSoon, judged}
+use Rattle.sender_rules.specs.Congestion.Echoes.{halved}
+use Rattle.sender_rules.specs.Congestion.Phases.{isEarly, phaseInRange, isRecent, orGreater, pipeAck, validated, isValidated, isOver, startedAt, runOn}
 use Rattle.cases.specs.Table.{sameFigures, holds, WTable}
 
 pub wTable : WTable

@@ -8,23 +8,23 @@ use lib.Dec.{eqb}
 use lib.ListN.{length, replicate}
 use Rattle.common.specs.Choice.{pick}
 use Rattle.refusals.specs.Reply.{Reply, answer, refuse, andThen, Outcome}
-use Rattle.rates.specs.Steps.{roundedDown}
-use Rattle.rates.specs.Window.{segmentsReply}
-use Rattle.options.specs.Wire.{optionLength}
-use Rattle.options.specs.Nonces.{loweredReply}
-use Rattle.options.specs.Requests.{requestRead}
-use Rattle.options.specs.Responses.{ttlDiff, responseRead, responseWritten}
-use Rattle.ipv4.specs.Headers.{optionsPlace}
-use Rattle.ipv4.specs.Views.{optionAt, put}
-use Rattle.router.specs.Routers.{routed, silentlyRouted}
-use Rattle.receiver.specs.Reports.{received, responseAfter}
-use Rattle.connection.specs.declared.Moment.{Moment}
-use Rattle.connection.specs.declared.Moment.the-variants.{Absent, At}
-use Rattle.connection.specs.declared.Connection.{Connection}
-use Rattle.connection.specs.Records.{freshWith}
-use Rattle.sender.specs.Calls.{Sending, wish, transport, senderCalls}
-use Rattle.congestion.specs.Phases.{sampleOf}
-use Rattle.congestion.specs.Calls.{congestionCalls}
+use Rattle.wire_rules.specs.Rates.Steps.{roundedDown}
+use Rattle.wire_rules.specs.Rates.Window.{segmentsReply}
+use Rattle.wire_rules.specs.Options.Wire.{optionLength}
+use Rattle.wire_rules.specs.Options.Nonces.{loweredReply}
+use Rattle.wire_rules.specs.Options.Requests.{requestRead}
+use Rattle.wire_rules.specs.Options.Responses.{ttlDiff, responseRead, responseWritten}
+use Rattle.wire_rules.specs.Ipv4.Headers.{optionsPlace}
+use Rattle.wire_rules.specs.Ipv4.Views.{optionAt, put}
+use Rattle.gateway_rules.specs.Router.Routers.{routed, silentlyRouted}
+use Rattle.gateway_rules.specs.Receiver.Reports.{received, responseAfter}
+use Rattle.sender_rules.specs.declared.Moment.{Moment}
+use Rattle.sender_rules.specs.declared.Moment.the-variants.{Absent, At}
+use Rattle.sender_rules.specs.declared.Connection.{Connection}
+use Rattle.sender_rules.specs.Connections.Records.{freshWith}
+use Rattle.sender_rules.specs.Sender.Calls.{Sending, wish, transport, senderCalls}
+use Rattle.sender_rules.specs.Congestion.Phases.{sampleOf}
+use Rattle.sender_rules.specs.Congestion.Calls.{congestionCalls}
 
 -- ---- a case, and the test of a table
 

@@ -5,7 +5,7 @@
 // the one called mixed below, with the bytes changed that its name tells and the checksum of that header; its
 // last eight bytes are the option.
 ghost use Prim.Native.Nat.{_<_};
-use ledger::Ledger;
+use gateway_rules::Ledger;
 use printing::bytes;
 use printing::number;
 use printing::numbers;

@@ -12,7 +12,7 @@ use printing::refused;
 use printing::say;
 use printing::start;
 use walk::Finding;
-use walk::Place;
+use wire_rules::Place;
 
 // The packet that document 01 works out.
 const DOCUMENT_01: [u8; 28] =

@@ -3,13 +3,7 @@
 use congestion::EchoAnswer;
 use congestion::PhaseAnswer;
 use congestion::SampleAnswer;
-use connection::Connection;
 use connection::FreshAnswer;
-use connection::Mark;
-use connection::Moment;
-use connection::OpenRequest;
-use connection::Sample;
-use connection::State;
 use printing::bytes;
 use printing::number;
 use printing::say;
@@ -17,6 +11,12 @@ use refusals::Refusal;
 use sender::AskAnswer;
 use sender::EndAnswer;
 use sender::ResponseAnswer;
+use sender_rules::Connection;
+use sender_rules::Mark;
+use sender_rules::Moment;
+use sender_rules::OpenRequest;
+use sender_rules::Sample;
+use sender_rules::State;
 
 // The relay's round trip, a segment, its headers and the initial window.
 pub const RELAY: u64 = 600_000;

@@ -17,8 +17,8 @@ use calls::phase;
 use calls::respond;
 use calls::response_to;
 use calls::sample;
-use connection::Connection;
 use printing::say;
+use sender_rules::Connection;
 
 mod calls;
 mod echoes;

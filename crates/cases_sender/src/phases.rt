@@ -13,8 +13,8 @@ use crate::calls::phase;
 use crate::calls::phase_with;
 use crate::calls::sample;
 use crate::calls::sampled;
-use connection::Connection;
 use printing::say;
+use sender_rules::Connection;
 
 // A window that is not used at all: 300 seconds in the phase, and one microsecond more.
 fn adjust(window: u64, ssthresh: u64, initial_window: u64) {

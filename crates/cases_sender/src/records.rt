@@ -16,14 +16,14 @@ use crate::calls::phase;
 use crate::calls::places;
 use crate::calls::sample;
 use crate::calls::sampled;
-use connection::Before;
-use connection::Connection;
-use connection::Mark;
-use connection::Moment;
-use connection::OpenRequest;
-use connection::Sample;
-use connection::State;
 use printing::say;
+use sender_rules::Before;
+use sender_rules::Connection;
+use sender_rules::Mark;
+use sender_rules::Moment;
+use sender_rules::OpenRequest;
+use sender_rules::Sample;
+use sender_rules::State;
 
 // Five samples, the newest first.
 fn row() -> [Sample; 5] {

@@ -23,8 +23,8 @@ use crate::calls::respond;
 use crate::calls::respond_with;
 use crate::calls::response;
 use crate::calls::with_byte;
-use connection::Connection;
 use printing::say;
+use sender_rules::Connection;
 
 // The window of a code that was asked for and answered.
 fn window_of(code: u32, rtt: u64, mss: u64, headers: u64) {

@@ -2,10 +2,3 @@ pub mod TestLaws
 pub mod EchoLaws
 pub mod SampleLaws
 pub mod PipeLaws
-pub mod PhaseLaws
-pub mod CallLaws
-pub mod PipeClaims
-pub mod EchoClaims
-pub mod SampleClaims
-pub mod PhaseClaims
-pub mod Claims

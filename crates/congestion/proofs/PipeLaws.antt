@@ -7,9 +7,9 @@ use native.Mathlib.Nat.{sub-zero}
 use native.Mathlib.Omega.{arith}
 use lib.ListN.{length, getD, take, drop}
 use Rattle.common.proofs.Lists.{part-cons}
-use Rattle.connection.specs.declared.Sample.{Sample}
-use Rattle.congestion.specs.Phases.{orGreater, pipeAck}
-use Rattle.connection.specs.Claims.{noSample}
+use Rattle.sender_rules.specs.declared.Sample.{Sample}
+use Rattle.sender_rules.specs.Congestion.Phases.{orGreater, pipeAck}
+use Rattle.sender_rules.specs.Connections.Claims.{noSample}
 
 module _ (limit time : ℕ) (l : List Sample) (n : ℕ) where
   -- pipeACK of the samples from place i on, of the first n

@@ -6,11 +6,11 @@ use mathlib.Core.Path.{_≡_, refl, ap₂}
 use native.Mathlib.Omega.{arith}
 use lib.Dec.{ltb}
 use lib.ListN.{length, getD, take}
-use Rattle.connection.specs.declared.Sample.{Sample}
-use Rattle.connection.specs.declared.Connection.{Connection}
-use Rattle.connection.specs.Records.{mostSamples, isBefore, withSamples}
-use Rattle.connection.specs.Claims.{noSample}
-use Rattle.congestion.specs.Phases.{beforeNewest, isEarly, sampled}
+use Rattle.sender_rules.specs.declared.Sample.{Sample}
+use Rattle.sender_rules.specs.declared.Connection.{Connection}
+use Rattle.sender_rules.specs.Connections.Records.{mostSamples, isBefore, withSamples}
+use Rattle.sender_rules.specs.Connections.Claims.{noSample}
+use Rattle.sender_rules.specs.Congestion.Phases.{beforeNewest, isEarly, sampled}
 
 -- ---- a time that is early
 

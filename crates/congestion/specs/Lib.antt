@@ -1,5 +1,1 @@
-pub mod Echoes
-pub mod Phases
-pub mod Calls
 pub mod Replies
-pub mod Claims

@@ -4,18 +4,14 @@
 ghost use mathlib.Core.Path.{_≡_};
 ghost use Prim.Native.Nat.{_≤_};
 ghost use lib.ListN.{take};
-ghost use Rattle.rates.specs.Window.{longestRtt};
-ghost use Rattle.connection.specs.Records.{mostBytes, mostSamples};
-ghost use Rattle.congestion.specs.Echoes.{isAhead, halved, reacted};
-ghost use Rattle.congestion.specs.Phases.{sampleOf, isEarly, isRecent, orGreater, pipeAck, validated, isValidated, isOver, startedAt, adjusted, runOn, sampled, phaseInRange};
-ghost use Rattle.congestion.specs.Calls.{congestionCalls};
+ghost use Rattle.wire_rules.specs.Rates.Window.{longestRtt};
+ghost use Rattle.sender_rules.specs.Connections.Records.{mostBytes, mostSamples};
+ghost use Rattle.sender_rules.specs.Congestion.Echoes.{isAhead, halved, reacted};
+ghost use Rattle.sender_rules.specs.Congestion.Phases.{sampleOf, isEarly, isRecent, orGreater, pipeAck, validated, isValidated, isOver, startedAt, adjusted, runOn, sampled, phaseInRange};
+ghost use Rattle.sender_rules.specs.Congestion.Calls.{congestionCalls};
 ghost use Rattle.congestion.specs.Replies.{echoTold, addedTold, phaseTold, pipeAckTold};
-use connection::Connection;
 use connection::MOST_BYTES;
 use connection::MOST_SAMPLES;
-use connection::Mark;
-use connection::Moment;
-use connection::Sample;
 use connection::greater;
 use connection::is_before;
 use connection::is_in_range;
@@ -26,6 +22,10 @@ use rates::LARGEST_SEGMENT;
 use rates::LONGEST_RTT;
 use refusals::Refusal;
 use refusals::in_range;
+use sender_rules::Connection;
+use sender_rules::Mark;
+use sender_rules::Moment;
+use sender_rules::Sample;
 use std::num::wrapping_sub_u32;
 
 // Half of the sequence numbers: one that is ahead of another by 1 or more, and by less than this, comes after it.

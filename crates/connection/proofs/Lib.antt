@@ -1,4 +1,1 @@
 pub mod SampleLaws
-pub mod RecordLaws
-pub mod Claims
-pub mod PartLaws

@@ -7,9 +7,9 @@ use native.Mathlib.Omega.{arith}
 use borrow.Author.Tests.{le-leb, lt-leb}
 use lib.ListN.{length, getD, take, drop}
 use Rattle.common.proofs.Lists.{part-cons}
-use Rattle.connection.specs.declared.Sample.{Sample}
-use Rattle.connection.specs.Records.{mostBytes, bytesInRange}
-use Rattle.connection.specs.Claims.{noSample}
+use Rattle.sender_rules.specs.declared.Sample.{Sample}
+use Rattle.sender_rules.specs.Connections.Records.{mostBytes, bytesInRange}
+use Rattle.sender_rules.specs.Connections.Claims.{noSample}
 
 module _ (l : List Sample) (n : ℕ) (long : n ≤ length l) (i : ℕ) where
   -- whether the samples from place i on, of the first n, are in range

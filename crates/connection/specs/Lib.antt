@@ -1,3 +1,1 @@
-pub mod Records
 pub mod Replies
-pub mod Claims

@@ -4,67 +4,22 @@
 ghost use mathlib.Core.Path.{_≡_};
 ghost use Prim.Native.Nat.{_≤_, min, max};
 ghost use lib.ListN.{take};
-ghost use Rattle.connection.specs.Records.{mostSamples, isBefore, stateInRange, bytesInRange, inRange, freshWith, freshReply, withState, withLastRequest, withMark, withPeriod};
+ghost use Rattle.sender_rules.specs.Connections.Records.{mostSamples, isBefore, stateInRange, bytesInRange, inRange, freshWith, freshReply, withState, withLastRequest, withMark, withPeriod};
 ghost use Rattle.connection.specs.Replies.{freshTold};
 use options::NONCE_LIMIT;
 use rates::TOP_CODE;
 use refusals::Refusal;
 use refusals::in_range;
+use sender_rules::Connection;
+use sender_rules::Mark;
+use sender_rules::Moment;
+use sender_rules::Sample;
+use sender_rules::State;
 
 // The most bytes of a window, of ssthresh, of a flight and of a sample: 2^40.
 pub const MOST_BYTES: u64 = 1_099_511_627_776;
 
 pub const MOST_SAMPLES: usize = 5;
-
-// The request that waits for its response: the code asked, the starting TTL Diff and the nonce.
-pub struct OpenRequest {
-    pub code: u32,
-    pub ttl_diff: u8,
-    pub nonce: u32,
-}
-
-// What is kept while quick: the window before the Quick-Start window was taken.
-pub struct Before {
-    pub window: u64,
-}
-
-pub enum State {
-    Idle,
-    Asked(OpenRequest),
-    Quick(Before),
-}
-
-// A time in microseconds, or none.
-pub enum Moment {
-    Absent,
-    At(u64),
-}
-
-// The ECN mark: the highest number sent when the window was last lowered for an echo, or none.
-pub enum Mark {
-    Absent,
-    At(u32),
-}
-
-// What was acknowledged in a round trip that ended at a time.
-pub struct Sample {
-    pub time: u64,
-    pub bytes: u64,
-}
-
-pub struct Connection {
-    pub state: State,
-    pub window: u64,
-    pub ssthresh: u64,
-    // The time of the last request.
-    pub last_request: Moment,
-    pub mark: Mark,
-    // The samples stand in the first `count` places, the one added last in front.
-    pub samples: [Sample; 5],
-    pub count: usize,
-    // The start of the non-validated period, if one runs.
-    pub period: Moment,
-}
 
 pub enum FreshAnswer {
     Ready,

@@ -13,26 +13,27 @@ use Rattle.refusals.specs.Numbers.{numberOf}
 use Rattle.refusals.specs.Reply.{Reply, answer, refuse, done}
 use Rattle.refusals.proofs.ReplyLaws.{RefusedBy, chosen-by, then-by}
 use Rattle.refusals.proofs.Claims.{table}
-use Rattle.rates.specs.Steps.{topCode}
-use Rattle.options.specs.declared.request.Request.{Request}
+use Rattle.wire_rules.specs.Rates.Steps.{topCode}
+use Rattle.wire_rules.specs.declared.Request.{Request}
 use Rattle.ipv4.specs.declared.ecn.Marking.{Marking}
 use Rattle.ipv4.specs.declared.ecn.Marking.the-variants as Markings
-use Rattle.ipv4.specs.Checks.{headerChecked}
-use Rattle.ipv4.specs.Packets.{forwarded}
-use Rattle.ipv4.specs.Marks.{Mark, marked, dropped, markReply}
+use Rattle.wire_rules.specs.Ipv4.Checks.{headerChecked}
+use Rattle.wire_rules.specs.Ipv4.Packets.{forwarded}
+use Rattle.wire_rules.specs.Ipv4.Marks.{Mark, marked, dropped, markReply}
 use Rattle.ipv4.specs.Replies.{markTold}
-use Rattle.ipv4.specs.Views.{view}
-use Rattle.ipv4.proofs.RefusalLaws.{checked-by, forwarded-by, view-by}
-use Rattle.ledger.specs.Calls.{Link, linkInRange, moveReply, askReply}
-use Rattle.ledger.specs.Rows.{total}
+use Rattle.wire_rules.specs.Ipv4.Views.{view}
+use Rattle.wire_rules.proofs.Ipv4.RefusalLaws.{checked-by, forwarded-by, view-by}
+use Rattle.gateway_rules.specs.Ledgers.Calls.{Link, linkInRange, moveReply, askReply}
+use Rattle.gateway_rules.specs.Ledgers.Rows.{total}
 use Rattle.router.specs.declared.Routed.{Routed}
 use Rattle.router.specs.declared.Routed.the-variants as Routings
-use Rattle.router.specs.Routers.{routerInRange, routed, silentlyRouted, ceilingFrom, wishOf, Passage, routedByLedger}
+use Rattle.gateway_rules.specs.Router.Routers.{routerInRange, routed, silentlyRouted, ceilingFrom, wishOf, Passage, routedByLedger}
 use Rattle.router.specs.Replies.{routedTold}
 use Rattle.receiver.specs.declared.Received.{Received}
 use Rattle.receiver.specs.declared.Received.the-variants as Receivings
-use Rattle.receiver.specs.Reports.{Report, unanswered, reported, receiverInRange, reportReply, received}
-use Rattle.receiver.specs.Replies.{reactionIn, receivedTold}
+use Rattle.gateway_rules.specs.Receiver.Reports.{Report, unanswered, reported, receiverInRange, reportReply, received}
+use Rattle.receiver.specs.Replies.{receivedTold}
+use Rattle.gateway_rules.specs.Receiver.Reactions.{reactionIn}
 use Rattle.gateway.specs.Results.{routerResult, receiverResult, markResult}
 use Rattle.gateway.specs.Claims.{Numbered, Lending, Apart, among, Possible}
 

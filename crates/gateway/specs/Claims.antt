@@ -6,16 +6,17 @@ use mathlib.Core.Path.{_≡_}
 use lib.Dec.{eqb}
 use lib.ListN.{length}
 use Rattle.refusals.specs.Reply.{answer, refuse, done}
-use Rattle.options.specs.declared.response.Response.{Response}
+use Rattle.wire_rules.specs.declared.Response.{Response}
 use Rattle.ipv4.specs.declared.ecn.Marking.{Marking}
-use Rattle.ipv4.specs.Marks.{marked, dropped, markReply}
+use Rattle.wire_rules.specs.Ipv4.Marks.{marked, dropped, markReply}
 use Rattle.ipv4.specs.Replies.{markTold}
 use Rattle.router.specs.declared.Routed.{Routed}
-use Rattle.router.specs.Routers.{routed, silentlyRouted, Passage, ledgerRouter}
+use Rattle.gateway_rules.specs.Router.Routers.{routed, silentlyRouted, Passage, ledgerRouter}
 use Rattle.router.specs.Replies.{routedTold}
 use Rattle.receiver.specs.declared.Received.{Received}
-use Rattle.receiver.specs.Reports.{unanswered, reported, received}
-use Rattle.receiver.specs.Replies.{reactionIn, receivedTold}
+use Rattle.gateway_rules.specs.Receiver.Reports.{unanswered, reported, received}
+use Rattle.receiver.specs.Replies.{receivedTold}
+use Rattle.gateway_rules.specs.Receiver.Reactions.{reactionIn}
 use Rattle.gateway.specs.Results.{routerResult, receiverResult, markResult, lentByC}
 
 -- the number of each answer

@@ -3,10 +3,10 @@
 use Prim.Native.Nat.{ℕ}
 use mathlib.Core.List.{List}
 use Rattle.refusals.specs.Reply.{Reply, answer, refuse}
-use Rattle.ipv4.specs.Marks.{Mark, marked, dropped}
-use Rattle.ledger.specs.Calls.{lent}
-use Rattle.router.specs.Routers.{Passage, passage}
-use Rattle.receiver.specs.Replies.{Reaction, silence, response}
+use Rattle.wire_rules.specs.Ipv4.Marks.{Mark, marked, dropped}
+use Rattle.gateway_rules.specs.Ledgers.Calls.{lent}
+use Rattle.gateway_rules.specs.Router.Routers.{Passage, passage}
+use Rattle.gateway_rules.specs.Receiver.Reactions.{Reaction, silence, response}
 
 -- a packet forwarded
 abbrev pub routerResult : Reply (Unit {0}) → ℕ

@@ -1,7 +1,1 @@
-pub mod RowLaws
-pub mod SpellLaws
-pub mod SummaryLaws
-pub mod JoinLaws
 pub mod SurveyLaws
-pub mod VerdictLaws
-pub mod Claims

@@ -1,6 +1,1 @@
-pub mod Rows
-pub mod Summaries
-pub mod Verdicts
-pub mod Parts
 pub mod Replies
-pub mod Claims

@@ -2,17 +2,17 @@
 use mathlib.Core.Option.{Option, none, some}
 use Rattle.refusals.specs.Numbers.{numberOf}
 use Rattle.refusals.specs.Reply.{Reply, answer, refuse}
-use Rattle.hops.specs.declared.Router.{Router}
+use Rattle.path_rules.specs.declared.Router.{Router}
 use Rattle.hops.specs.declared.Front.{Front}
 use Rattle.hops.specs.declared.Front.the-variants as Fronts
-use Rattle.hops.specs.declared.Summary.{Summary}
+use Rattle.path_rules.specs.declared.Summary.{Summary}
 use Rattle.hops.specs.declared.SummaryAnswer.{SummaryAnswer}
 use Rattle.hops.specs.declared.SummaryAnswer.the-variants as SummaryAnswers
 use Rattle.hops.specs.declared.Verdict as code
 use Rattle.hops.specs.declared.Verdict.the-variants as CodeVerdicts
 use Rattle.hops.specs.declared.VerdictAnswer.{VerdictAnswer}
 use Rattle.hops.specs.declared.VerdictAnswer.the-variants as VerdictAnswers
-use Rattle.hops.specs.Verdicts.{Verdict, lost, unanswered, notAccepted, accepted}
+use Rattle.path_rules.specs.Hops.Verdicts.{Verdict, lost, unanswered, notAccepted, accepted}
 
 abbrev pub frontTold : Front → Option Router
 frontTold (Fronts.Of router) = some router

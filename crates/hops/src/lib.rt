@@ -3,14 +3,16 @@
 ghost use mathlib.Core.Path.{_≡_};
 ghost use Prim.Native.Nat.{_+_, _*_, _/_, _≤_, _<_};
 ghost use lib.ListN.{length, drop};
-ghost use Rattle.rates.specs.Steps.{topCode};
-ghost use Rattle.options.specs.Wire.{wordFrom};
-ghost use Rattle.hops.specs.Rows.{mostRouters, frontOf, lengthOf, hopsFrom};
-ghost use Rattle.hops.specs.Summaries.{joined, summaryOf, summaryInRange, summaryReply, joinReply};
-ghost use Rattle.hops.specs.Verdicts.{verdictInRange, verdictOf, verdictReply};
-ghost use Rattle.hops.specs.Parts.{one};
+ghost use Rattle.wire_rules.specs.Rates.Steps.{topCode};
+ghost use Rattle.wire_rules.specs.Options.Wire.{wordFrom};
+ghost use Rattle.path_rules.specs.Hops.Rows.{mostRouters, frontOf, lengthOf, hopsFrom};
+ghost use Rattle.path_rules.specs.Hops.Summaries.{joined, summaryOf, summaryInRange, summaryReply, joinReply};
+ghost use Rattle.path_rules.specs.Hops.Verdicts.{verdictInRange, verdictOf, verdictReply};
+ghost use Rattle.path_rules.specs.Hops.Parts.{one};
 ghost use Rattle.hops.specs.Replies.{frontTold, summaryTold, verdictTold, verdictAnswerTold};
 use options::word_from;
+use path_rules::Router;
+use path_rules::Summary;
 use rates::TOP_CODE;
 use rates::lesser;
 use refusals::Refusal;
@@ -28,24 +30,10 @@ pub const SILENT: u8 = 3;
 
 pub const SILENT_LENGTH: usize = 1;
 
-pub enum Router {
-    // One that knows Quick-Start, with its ceiling and its fresh nonce.
-    Knowing(u32, u32),
-    Silent,
-}
-
 // What stands at a place of a row: a router's whole record with its ceiling in range, or none.
 pub enum Front {
     Of(Router),
     Nothing,
-}
-
-// The summary of a part of a path: its routers, the silent ones among them, and the least ceiling of those that know
-// Quick-Start, 15 if there are none.
-pub struct Summary {
-    pub routers: u32,
-    pub silent: u32,
-    pub least: u32,
 }
 
 pub enum SummaryAnswer {

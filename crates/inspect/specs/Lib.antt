@@ -1,3 +1,1 @@
-pub mod Sights
 pub mod Replies
-pub mod Claims

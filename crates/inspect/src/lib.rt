@@ -2,32 +2,21 @@
 // request with the place of the option.
 ghost use mathlib.Core.Path.{_≡_};
 ghost use lib.ListN.{length};
-ghost use Rattle.ipv4.specs.Views.{requestAt};
-ghost use Rattle.inspect.specs.Sights.{Room, askingAt, sighted};
+ghost use Rattle.wire_rules.specs.Ipv4.Views.{requestAt};
+ghost use Rattle.gateway_rules.specs.Inspect.Sights.{Room, askingAt, sighted};
 ghost use Rattle.inspect.specs.Replies.{sightTold};
+use gateway_rules::Asking;
+use gateway_rules::Seen;
 use ipv4::IpTtl;
 use ipv4::ip_ttl;
 use ipv4::locate;
 use options::OPTION_LENGTH;
 use options::request;
 use options::request::Reading;
-use options::request::Request;
 use refusals::Refusal;
 use walk::Finding;
-use walk::Place;
-
-// What a packet asks for.
-pub enum Asking {
-    // It has no Quick-Start option, or one of another function than a request's.
-    Nothing,
-    // A request, and the place of its option in the packet.
-    For(usize, Request),
-}
-
-pub struct Seen {
-    pub ttl: u8,
-    pub asking: Asking,
-}
+use wire_rules::Place;
+use wire_rules::Request;
 
 pub enum Sight {
     Of(Seen),

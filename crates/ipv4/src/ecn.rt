@@ -1,7 +1,7 @@
 // Explicit Congestion Notification: the low two bits of a header's second byte are ECT, by which a sender
 // says that its transport is ECN-capable, and CE, by which a router says that the packet met congestion.
 ghost use mathlib.Core.Path.{_≡_};
-ghost use Rattle.ipv4.specs.Marks.{markReply, markedPacket};
+ghost use Rattle.wire_rules.specs.Ipv4.Marks.{markReply, markedPacket};
 ghost use Rattle.ipv4.specs.Replies.{markTold};
 use crate::Checked;
 use crate::check_header;

@@ -5,14 +5,14 @@ ghost use Prim.Native.Nat.{_+_, _%_, _<_, _≤_};
 ghost use lib.ListN.{length};
 ghost use Rattle.refusals.specs.Reply.{leaves, done};
 ghost use Rattle.walk.specs.Replies.{findingTold};
-ghost use Rattle.ipv4.specs.Headers.{wordAt, headerLength};
-ghost use Rattle.ipv4.specs.Checksums.{allOnes, onesSum, withChecksum, sealed};
-ghost use Rattle.ipv4.specs.Checks.{wellFormed, headerChecked};
-ghost use Rattle.ipv4.specs.Packets.{ttlReply, located, sealedReply, passedOn, forwarded};
+ghost use Rattle.wire_rules.specs.Ipv4.Headers.{wordAt, headerLength};
+ghost use Rattle.wire_rules.specs.Ipv4.Checksums.{allOnes, onesSum, withChecksum, sealed};
+ghost use Rattle.wire_rules.specs.Ipv4.Checks.{wellFormed, headerChecked};
+ghost use Rattle.wire_rules.specs.Ipv4.Packets.{ttlReply, located, sealedReply, passedOn, forwarded};
 ghost use Rattle.ipv4.specs.Replies.{checkedTold, ttlTold, forwardedTold};
 use refusals::Refusal;
 use walk::Finding;
-use walk::Place;
+use wire_rules::Place;
 
 pub mod ecn;
 

@@ -1,5 +1,1 @@
-pub mod Rows
-pub mod Calls
 pub mod Replies
-pub mod History
-pub mod Claims

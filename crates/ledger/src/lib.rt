@@ -6,11 +6,12 @@
 ghost use mathlib.Core.Path.{_≡_};
 ghost use Prim.Native.Nat.{_+_, _≤_, _<_, min};
 ghost use lib.ListN.{length, replicate};
-ghost use Rattle.rates.specs.Steps.{topCode, rateOf, greatestUpTo};
-ghost use Rattle.ledger.specs.Rows.{total, movedOn, charged};
-ghost use Rattle.ledger.specs.Calls.{mostAllowance, lent, linkInRange, grantOf};
+ghost use Rattle.wire_rules.specs.Rates.Steps.{topCode, rateOf, greatestUpTo};
+ghost use Rattle.gateway_rules.specs.Ledgers.Rows.{total, movedOn, charged};
+ghost use Rattle.gateway_rules.specs.Ledgers.Calls.{mostAllowance, lent, linkInRange, grantOf};
 ghost use Rattle.ledger.specs.Replies.{setUpTold, moveTold, grantTold};
-ghost use Rattle.ledger.specs.History.{ledgerCalls};
+ghost use Rattle.gateway_rules.specs.Ledgers.History.{ledgerCalls};
+use gateway_rules::Ledger;
 use rates::Rate;
 use rates::TOP_CODE;
 use rates::rate_of;
@@ -22,13 +23,6 @@ pub const MOST_SLOTS: usize = 64;
 
 // The greatest allowance, in bits a second: 2^40.
 pub const MOST_ALLOWANCE: u64 = 1_099_511_627_776;
-
-// The ledger's record beside its row: the tick of the last call that was not refused, and the most
-// bits a second that the approvals of the last S ticks may add up to, S the row's length.
-pub struct Ledger {
-    pub tick: u64,
-    pub allowance: u64,
-}
 
 pub enum SetUp {
     Ready(Ledger),

@@ -3,7 +3,7 @@
 ghost use mathlib.Core.Path.{_≡_};
 ghost use Prim.Native.Nat.{_<_};
 ghost use lib.ListN.{length, getD};
-ghost use Rattle.options.specs.Wire.{optionLength, nonceLimit, wordFrom, wordOf, optionBytes, optionWritten, fieldsFit, rateIn, ttlIn, nonceIn};
+ghost use Rattle.wire_rules.specs.Options.Wire.{optionLength, nonceLimit, wordFrom, wordOf, optionBytes, optionWritten, fieldsFit, rateIn, ttlIn, nonceIn};
 ghost use Rattle.options.specs.Replies.{writtenTold};
 ghost use Rattle.refusals.specs.Reply.{leaves, done};
 use rates::TOP_CODE;

@@ -2,9 +2,9 @@
 // and the nonce's word.
 ghost use mathlib.Core.Path.{_≡_};
 ghost use lib.ListN.{length};
-ghost use Rattle.options.specs.Requests.{isRequest, requestRead, requestWritten, requestRewritten};
+ghost use Rattle.wire_rules.specs.Options.Requests.{isRequest, requestRead, requestWritten, requestRewritten};
 ghost use Rattle.options.specs.Replies.{requestTold, writtenTold};
-ghost use Rattle.options.specs.Wire.{optionLength};
+ghost use Rattle.wire_rules.specs.Options.Wire.{optionLength};
 ghost use Rattle.refusals.specs.Reply.{leaves, done};
 use crate::KIND;
 use crate::LENGTH;
@@ -17,15 +17,10 @@ use crate::put;
 use crate::word_of;
 use crate::write_option;
 use refusals::Refusal;
+use wire_rules::Request;
 
 // The option's type.
 pub const REQUEST: u8 = 25;
-
-pub struct Request {
-    pub rate: u32,
-    pub qs_ttl: u8,
-    pub nonce: u32,
-}
 
 pub enum Reading {
     Request(Request),

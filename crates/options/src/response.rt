@@ -2,9 +2,9 @@
 // TTL Diff, and the nonce's word.
 ghost use mathlib.Core.Path.{_≡_};
 ghost use lib.ListN.{length};
-ghost use Rattle.options.specs.Responses.{ttlDiff, isResponse, responseRead, responseWritten};
+ghost use Rattle.wire_rules.specs.Options.Responses.{ttlDiff, isResponse, responseRead, responseWritten};
 ghost use Rattle.options.specs.Replies.{responseTold, writtenTold};
-ghost use Rattle.options.specs.Wire.{optionLength};
+ghost use Rattle.wire_rules.specs.Options.Wire.{optionLength};
 ghost use Rattle.refusals.specs.Reply.{leaves, done};
 use crate::KIND;
 use crate::LENGTH;
@@ -14,15 +14,10 @@ use crate::fields_of;
 use crate::write_option;
 use refusals::Refusal;
 use std::num::wrapping_sub_u8;
+use wire_rules::Response;
 
 // The option's kind.
 const RESPONSE: u8 = 27;
-
-pub struct Response {
-    pub rate: u32,
-    pub ttl_diff: u8,
-    pub nonce: u32,
-}
 
 pub enum Reading {
     Response(Response),

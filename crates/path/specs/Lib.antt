@@ -1,4 +1,1 @@
-pub mod Runs
-pub mod Demands
 pub mod Replies
-pub mod Claims

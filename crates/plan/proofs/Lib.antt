@@ -1,10 +1,2 @@
-pub mod DecimalLaws
 pub mod TextLaws
-pub mod InputLaws
-pub mod FormatLaws
-pub mod EnoughLaws
-pub mod SpellingLaws
-pub mod ReadLaws
-pub mod RunPathLaws
-pub mod LineLaws
-pub mod Claims
+pub mod AnswerLaws

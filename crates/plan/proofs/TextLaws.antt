@@ -6,8 +6,9 @@ use native.Mathlib.Omega.{arith}
 use lib.ListN.{length, set, take}
 use lib.Seq.{length-take-le}
 use Rattle.plan.specs.declared.Text.{Text}
-use Rattle.plan.specs.Lines.{textOf, lastDigits, decimal}
-use Rattle.plan.proofs.DecimalLaws.{digit-last, digits-2, digits-3, digits-4}
+use Rattle.path_rules.specs.Plan.Lines.{lastDigits, decimal}
+use Rattle.plan.specs.Texts.{textOf}
+use Rattle.path_rules.proofs.Plan.DecimalLaws.{digit-last, digits-2, digits-3, digits-4}
 
 -- a byte stored behind the first n places is the last of the first n + 1
 pub stored-behind : (l : List ℕ) (n b : ℕ) → n < length l → take (n + 1) (set l n b) ≡ take n l ++ (b ∷ [])

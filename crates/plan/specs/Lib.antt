@@ -1,4 +1,1 @@
-pub mod Records
-pub mod Lines
-pub mod Parts
-pub mod Claims
+pub mod Texts

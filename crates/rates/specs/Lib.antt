@@ -1,4 +1,1 @@
-pub mod Steps
-pub mod Window
 pub mod Replies
-pub mod Claims

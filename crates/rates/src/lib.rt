@@ -2,8 +2,8 @@
 // router does and up as a sender does, and the Quick-Start window that a code allows.
 ghost use mathlib.Core.Path.{_≡_};
 ghost use Prim.Native.Nat.{_^_, _≤_, min};
-ghost use Rattle.rates.specs.Steps.{topCode, rateReply, roundedDown, roundedUpReply};
-ghost use Rattle.rates.specs.Window.{transportInRange, segmentsReply, bytesReply};
+ghost use Rattle.wire_rules.specs.Rates.Steps.{topCode, rateReply, roundedDown, roundedUpReply};
+ghost use Rattle.wire_rules.specs.Rates.Window.{transportInRange, segmentsReply, bytesReply};
 ghost use Rattle.rates.specs.Replies.{rateTold, codeTold, windowTold};
 use refusals::Refusal;
 use refusals::in_range;

@@ -1,3 +1,1 @@
-pub mod Reports
 pub mod Replies
-pub mod Claims

@@ -3,20 +3,7 @@ use Rattle.refusals.specs.Numbers.{numberOf}
 use Rattle.refusals.specs.Reply.{Reply, answer, refuse}
 use Rattle.receiver.specs.declared.Received.{Received}
 use Rattle.receiver.specs.declared.Received.the-variants as Receivings
-use Rattle.receiver.specs.Reports.{Report, unanswered, reported}
-
--- whether a request was answered
-pub data Reaction : Type 0 where
-  silence : Reaction
-  response : Reaction
-
-abbrev pub reactionTo : Report → Reaction
-reactionTo unanswered = silence
-reactionTo (reported r) = response
-
-abbrev pub reactionIn : Reply Report → Reply Reaction
-reactionIn (answer report) = answer (reactionTo report)
-reactionIn (refuse n) = refuse n
+use Rattle.gateway_rules.specs.Receiver.Reactions.{Reaction, silence, response}
 
 abbrev pub receivedTold : Received → Reply Reaction
 receivedTold Receivings.Answered = answer response

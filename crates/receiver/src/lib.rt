@@ -2,17 +2,18 @@
 ghost use mathlib.Core.Path.{_≡_};
 ghost use lib.ListN.{length};
 ghost use Rattle.refusals.specs.Reply.{answer};
-ghost use Rattle.receiver.specs.Reports.{reportOn, receiverInRange, received, responseAfter};
-ghost use Rattle.receiver.specs.Replies.{reactionTo, reactionIn, receivedTold};
-use inspect::Asking;
+ghost use Rattle.gateway_rules.specs.Receiver.Reports.{reportOn, receiverInRange, received, responseAfter};
+ghost use Rattle.receiver.specs.Replies.{receivedTold};
+ghost use Rattle.gateway_rules.specs.Receiver.Reactions.{reactionTo, reactionIn};
+use gateway_rules::Asking;
 use inspect::Sight;
 use inspect::look;
 use options::OPTION_LENGTH;
-use options::request::Request;
 use options::response;
 use rates::TOP_CODE;
 use rates::lesser;
 use refusals::Refusal;
+use wire_rules::Request;
 
 pub enum Received {
     // The response was written.

@@ -3,8 +3,8 @@ use Prim.Native.Nat.{ℕ}
 use mathlib.Core.Path.{_≡_, refl, ap, _∙_}
 use lib.ListN.{length}
 use Rattle.refusals.specs.Reply.{Reply, answer, refuse, leaves}
-use Rattle.router.specs.Routers.{wishOf, Passage, routedByLedger, ledgerRouter}
-use Rattle.router.proofs.RouterLaws.{wish-low, ledger-by, from-ledger}
+use Rattle.gateway_rules.specs.Router.Routers.{wishOf, Passage, routedByLedger, ledgerRouter}
+use Rattle.gateway_rules.proofs.Router.PassedLaws.{wish-low, ledger-by, from-ledger}
 
 pub allowance-left : (ceiling fresh tick : ℕ) (p : Passage) → ledgerRouter ceiling fresh tick p .left .link .ledger .allowance ≡ p .link .ledger .allowance
 allowance-left ceiling fresh tick p = go (routedByLedger (length (p .packet)) ceiling fresh tick p) refl

@@ -1,10 +1,2 @@
-pub mod DecisionLaws
 pub mod RouterLaws
-pub mod HopLaws
-pub mod RoutingLaws
-pub mod LedgerLaws
-pub mod OnlyLaws
-pub mod OneRouter
-pub mod TrafficLaws
-pub mod Claims
 pub mod KeptLaws

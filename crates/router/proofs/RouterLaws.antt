@@ -1,6 +1,6 @@
 -- Laws of routers: a packet that was met is looked at, decided and passed on, and what that leaves is the decision put into its view. Assumes nothing.
-use Prim.Native.Nat.{ℕ, zero, suc, _+_, _-_, _≤_, _<_}
-use mathlib.Core.Bool.{Bool, true, false, _&&_}
+use Prim.Native.Nat.{ℕ, _+_, _-_, _≤_, _<_}
+use mathlib.Core.Bool.{Bool, true, false}
 use mathlib.Core.List.{List, _++_, append-assoc}
 use mathlib.Core.Option.{Option, none, some}
 use mathlib.Core.Path.{_≡_, refl, sym, ap, ap₂, subst, _∙_}
@@ -11,36 +11,37 @@ use lib.ListN.{length, take, drop, length-drop}
 use lib.Seq.{sets, sets-eq, length-sets, length-take-le, drop-drop}
 use Rattle.common.specs.Choice.{pick}
 use Rattle.common.specs.Lists.{Bytes}
-use Rattle.common.proofs.Choice.{clash, chosen, both-true}
+use Rattle.common.proofs.Choice.{clash, chosen}
 use Rattle.refusals.specs.Reply.{Reply, answer, refuse, leaves, andThen}
-use Rattle.refusals.proofs.ReplyLaws.{passed, same-answer, through, let-through}
-use Rattle.options.specs.declared.request.Request.{Request}
-use Rattle.options.specs.Wire.{optionLength}
-use Rattle.options.specs.Requests.{requestRewritten}
-use Rattle.walk.specs.declared.Place.{Place}
-use Rattle.walk.specs.declared.Place.the-variants.{Nowhere, At}
-use Rattle.ipv4.specs.Headers.{ipTtl}
-use Rattle.ipv4.specs.Checks.{headerChecked}
-use Rattle.ipv4.specs.Packets.{walked, located, passedOn}
-use Rattle.ipv4.specs.Views.{View, optionAt, requestAt, view, putRequest, put}
-use Rattle.ipv4.specs.Claims.{FitsWhere}
-use Rattle.ipv4.proofs.OptionLaws.{viewed-by}
-use Rattle.ipv4.proofs.Claims.{viewing, forwarding}
-use Rattle.ledger.specs.declared.Ledger.{Ledger}
-use Rattle.ledger.specs.Calls.{Link, linkInRange, Granted, askReply}
-use Rattle.ledger.specs.Replies.{codeIn, linkIn}
-use Rattle.ledger.proofs.Claims.{accepting}
-use Rattle.inspect.specs.declared.Asking.{Asking}
-use Rattle.inspect.specs.declared.Asking.the-variants.{Nothing, For}
-use Rattle.inspect.specs.declared.Seen.{Seen}
-use Rattle.inspect.specs.Sights.{askingAt, requestOf, sighted}
-use Rattle.inspect.proofs.SightLaws.{room-of, request-kept}
-use Rattle.router.specs.declared.Decision.{Decision}
-use Rattle.router.specs.declared.Decision.the-variants as Decisions
-use Rattle.router.specs.Decisions.{decided, denial, writtenBy, over}
-use Rattle.router.specs.Routers.{routerInRange, unexpired, routedView, routed, wishOf, ceilingFrom, Passage, passage, routedByLedger}
+use Rattle.refusals.proofs.ReplyLaws.{same-answer, through, let-through}
+use Rattle.wire_rules.specs.declared.Request.{Request}
+use Rattle.wire_rules.specs.Options.Wire.{optionLength}
+use Rattle.wire_rules.specs.Options.Requests.{requestRewritten}
+use Rattle.wire_rules.specs.declared.Place.{Place}
+use Rattle.wire_rules.specs.declared.Place.the-variants.{Nowhere, At}
+use Rattle.wire_rules.specs.Ipv4.Headers.{ipTtl}
+use Rattle.wire_rules.specs.Ipv4.Checks.{headerChecked}
+use Rattle.wire_rules.specs.Ipv4.Packets.{walked, located, passedOn}
+use Rattle.wire_rules.specs.Ipv4.Views.{View, optionAt, requestAt, view, putRequest, put}
+use Rattle.wire_rules.specs.Ipv4.Claims.{FitsWhere}
+use Rattle.wire_rules.proofs.Ipv4.OptionLaws.{viewed-by}
+use Rattle.wire_rules.proofs.Ipv4.Claims.{viewing, forwarding}
+use Rattle.gateway_rules.specs.Ledgers.Calls.{Link, Granted, askReply}
+use Rattle.gateway_rules.specs.Ledgers.Held.{codeIn, linkIn}
+use Rattle.gateway_rules.proofs.Ledgers.Claims.{accepting}
+use Rattle.gateway_rules.specs.declared.Asking.{Asking}
+use Rattle.gateway_rules.specs.declared.Asking.the-variants.{Nothing, For}
+use Rattle.gateway_rules.specs.declared.Seen.{Seen}
+use Rattle.gateway_rules.specs.Inspect.Sights.{askingAt, requestOf, sighted}
+use Rattle.gateway_rules.proofs.Inspect.SightLaws.{room-of, request-kept}
+use Rattle.gateway_rules.specs.declared.Decision.{Decision}
+use Rattle.gateway_rules.specs.declared.Decision.the-variants as Decisions
+use Rattle.gateway_rules.specs.Router.Decisions.{decided, denial, writtenBy, over}
+use Rattle.gateway_rules.specs.Router.Routers.{routerInRange, unexpired, routedView, routed, wishOf, ceilingFrom, Passage, passage, routedByLedger}
 use Rattle.router.specs.Parts.{met, metView, ReadableWhere, decisionWritten}
-use Rattle.router.proofs.DecisionLaws.{in-range, ranges, decided-fits}
+use Rattle.gateway_rules.proofs.Router.DecisionLaws.{in-range, ranges, decided-fits}
+use Rattle.gateway_rules.proofs.Router.PassedLaws.{asked-for, wish-low}
+use Rattle.gateway_rules.proofs.Router.PassedLaws as Passed
 
 -- ---- the eight bytes lent
 
@@ -185,9 +186,6 @@ written-long ceiling fresh (For place r) packet = go (writtenBy (decided ceiling
 -- ---- a router's reply, by what it met
 
 module _ (reach ceiling fresh : ℕ) (packet : List ℕ) where
-  pub routed-seven : routerInRange ceiling fresh ≡ false → refuse 7 ≡ routed reach ceiling fresh packet
-  routed-seven e = simp e
-
   module _ (ok : routerInRange ceiling fresh ≡ true) where
     routed-of : andThen (met reach packet) (λ asking. answer (put packet (routedView ceiling fresh (metView packet asking)))) ≡ routed reach ceiling fresh packet
     routed-of = sym (chosen (routerInRange ceiling fresh) _ _ ok ∙ after-met reach packet (λ v. answer (put packet (routedView ceiling fresh v))))
@@ -209,14 +207,6 @@ pub is-granted : (link new : Link) (code : ℕ) (r : Reply Granted) → answer c
 is-granted link new code (answer g) d e = let c : code ≡ g .code = same-answer d in ap₂ (λ (k : ℕ) (l : Link). answer (record { code = k; link = l })) (sym c) (sym e)
 is-granted link new code (refuse m) d e = absurd (clash (cc))
 
-pub asked-for : (ceiling tick wish : ℕ) (link : Link) → (wish ≡ 0 → ⊥) → ceilingFrom ceiling link tick wish ≡ askReply link tick wish
-asked-for ceiling tick zero link n = absurd (n refl)
-asked-for ceiling tick (suc wish) link n = refl
-
-pub wish-low : (ceiling : ℕ) (x : Option Request) → wishOf ceiling x ≤ ceiling
-wish-low ceiling none = omega arith
-wish-low ceiling (some r) = omega arith
-
 -- a grant is a ceiling in its range
 pub granted-range : (ceiling fresh tick : ℕ) (x : Option Request) (link : Link) (g : Granted) → routerInRange ceiling fresh ≡ true
     → askReply link tick (wishOf ceiling x) ≡ answer g → routerInRange (g .code) fresh ≡ true
@@ -228,13 +218,13 @@ granted-range ceiling fresh tick x link g ok e =
 module _ (reach ceiling fresh tick : ℕ) (p : Passage) where
   -- what is left once the ceiling is known
   abbrev passedBy : View → Granted → Reply Passage
-  passedBy v g = answer (passage (put (p .packet) (routedView (g .code) fresh v)) (g .link))
+  passedBy = Passed.passedBy reach ceiling fresh tick p
 
   abbrev decidedBy : View → Reply Passage
-  decidedBy v = andThen (ceilingFrom ceiling (p .link) tick (wishOf ceiling (v .request))) (passedBy v)
+  decidedBy = Passed.decidedBy reach ceiling fresh tick p
 
   abbrev allInRange : Bool
-  allInRange = routerInRange ceiling fresh && linkInRange (length (p .link .row)) (p .link .ledger .allowance)
+  allInRange = Passed.allInRange reach ceiling fresh tick p
 
   pub ledger-seven : allInRange ≡ false → refuse 7 ≡ routedByLedger reach ceiling fresh tick p
   ledger-seven e = simp e
@@ -269,48 +259,3 @@ module _ (reach ceiling fresh tick : ℕ) (p : Passage) where
         ledger-granted g a = ledger-asked (answer g) a
 
 -- ---- what an accepted call came through
-
-pub record RoutedBy (reach ceiling fresh : ℕ) (packet new : List ℕ) : Type 0 where
-  pub ok : routerInRange ceiling fresh ≡ true
-  pub seen : View
-  pub viewed : view reach packet ≡ answer seen
-  pub lives : 1 < seen .ttl
-  pub is : new ≡ put packet (routedView ceiling fresh seen)
-
-pub routed-by : (reach ceiling fresh : ℕ) (packet new : List ℕ) → routed reach ceiling fresh packet ≡ answer new → RoutedBy reach ceiling fresh packet new
-routed-by reach ceiling fresh packet new e =
-    let t = passed (routerInRange ceiling fresh) new _ 7 (sym e) in
-    let s = through (view reach packet) (λ v. unexpired v (answer (put packet (routedView ceiling fresh v)))) new (sym (t .1)) in
-    let l = let-through (leb (s .0 .ttl) 1) new _ 6 (sym (s .2)) in
-    record { ok = t .0; seen = s .0; viewed = s .1; lives = leb-false (s .0 .ttl) 1 (l .0); is = same-answer (l .1) }
-
-pub record LedgerBy (reach ceiling fresh tick : ℕ) (p new : Passage) : Type 0 where
-  pub ok : routerInRange ceiling fresh ≡ true
-  pub fits : linkInRange (length (p .link .row)) (p .link .ledger .allowance) ≡ true
-  pub seen : View
-  pub viewed : view reach (p .packet) ≡ answer seen
-  pub lives : 1 < seen .ttl
-  pub grant : Granted
-  pub granted : ceilingFrom ceiling (p .link) tick (wishOf ceiling (seen .request)) ≡ answer grant
-  pub is : new ≡ passage (put (p .packet) (routedView (grant .code) fresh seen)) (grant .link)
-
-pub ledger-by : (reach ceiling fresh tick : ℕ) (p new : Passage) → routedByLedger reach ceiling fresh tick p ≡ answer new → LedgerBy reach ceiling fresh tick p new
-ledger-by reach ceiling fresh tick p new e =
-    let t = passed (allInRange reach ceiling fresh tick p) new _ 7 (sym e) in
-    let both = both-true (routerInRange ceiling fresh) (linkInRange (length (p .link .row)) (p .link .ledger .allowance)) (t .0) in
-    let s = through (view reach (p .packet)) (λ v. unexpired v (decidedBy reach ceiling fresh tick p v)) new (sym (t .1)) in
-    let l = let-through (leb (s .0 .ttl) 1) new _ 6 (sym (s .2)) in
-    let g = through (ceilingFrom ceiling (p .link) tick (wishOf ceiling (s .0 .request))) (passedBy reach ceiling fresh tick p (s .0)) new (sym (l .1)) in
-    record { ok = both .0; fits = both .1; seen = s .0; viewed = s .1; lives = leb-false (s .0 .ttl) 1 (l .0); grant = g .0; granted = g .1; is = same-answer (sym (g .2)) }
-
--- the ceiling to decide by is at most the router's own, and the ledger's allowance stays
-pub from-ledger : (ceiling tick wish : ℕ) (link : Link) (g : Granted) → wish ≤ ceiling → ceilingFrom ceiling link tick wish ≡ answer g
-    → (g .code ≤ ceiling) × (g .link .ledger .allowance ≡ link .ledger .allowance)
-from-ledger ceiling tick zero link g low e =
-    let is : record { code = ceiling; link = link } ≡ g = same-answer e in
-    let code : ceiling ≡ g .code = ap (λ (x : Granted). x .code) is in
-    (omega arith, sym (ap (λ (x : Granted). x .link .ledger .allowance) is))
-from-ledger ceiling tick (suc wish) link g low e =
-    let a = accepting .ask link tick (suc wish) g e in
-    let up = a .2 .rule .up-to in
-    (omega arith, ap (λ (x : Ledger). x .allowance) (a .2 .ledger-is) ∙ a .1 .allowance-is)

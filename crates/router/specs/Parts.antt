@@ -4,16 +4,16 @@ use mathlib.Core.List.{List}
 use lib.Dec.{leb}
 use Rattle.common.specs.Choice.{pick}
 use Rattle.refusals.specs.Reply.{Reply, answer, refuse, andThen}
-use Rattle.rates.specs.Steps.{topCode}
-use Rattle.options.specs.declared.request.Request.{Request}
-use Rattle.options.specs.Wire.{optionLength, nonceLimit}
-use Rattle.walk.specs.declared.Place.the-variants.{At}
-use Rattle.ipv4.specs.Headers.{ipTtl}
-use Rattle.ipv4.specs.Views.{View, putRequest}
-use Rattle.inspect.specs.declared.Asking.{Asking}
-use Rattle.inspect.specs.declared.Asking.the-variants.{Nothing, For}
-use Rattle.inspect.specs.Sights.{sighted, requestOf}
-use Rattle.router.specs.Decisions.{decided, writtenBy}
+use Rattle.wire_rules.specs.Rates.Steps.{topCode}
+use Rattle.wire_rules.specs.declared.Request.{Request}
+use Rattle.wire_rules.specs.Options.Wire.{optionLength, nonceLimit}
+use Rattle.wire_rules.specs.declared.Place.the-variants.{At}
+use Rattle.wire_rules.specs.Ipv4.Headers.{ipTtl}
+use Rattle.wire_rules.specs.Ipv4.Views.{View, putRequest}
+use Rattle.gateway_rules.specs.declared.Asking.{Asking}
+use Rattle.gateway_rules.specs.declared.Asking.the-variants.{Nothing, For}
+use Rattle.gateway_rules.specs.Inspect.Sights.{sighted, requestOf}
+use Rattle.gateway_rules.specs.Router.Decisions.{decided, writtenBy}
 
 -- a packet that can be passed on, by what it asks for: 1, 2, 3, 5, then 6
 abbrev pub met : ℕ → List ℕ → Reply Asking

@@ -1,7 +1,7 @@
 -- What each answer of this crate means: that it was done, what was met, or the number of the refusal. Assumes nothing.
 use Rattle.refusals.specs.Numbers.{numberOf}
 use Rattle.refusals.specs.Reply.{Reply, answer, refuse}
-use Rattle.inspect.specs.declared.Asking.{Asking}
+use Rattle.gateway_rules.specs.declared.Asking.{Asking}
 use Rattle.router.specs.declared.Routed.{Routed}
 use Rattle.router.specs.declared.Routed.the-variants as Routings
 use Rattle.router.specs.declared.Met.{Met}

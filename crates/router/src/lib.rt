@@ -7,24 +7,25 @@ ghost use mathlib.Core.Path.{_≡_};
 ghost use Prim.Native.Nat.{_+_, _≤_, _<_};
 ghost use lib.ListN.{length};
 ghost use Rattle.refusals.specs.Reply.{answer, leaves, done};
-ghost use Rattle.rates.specs.Steps.{topCode};
-ghost use Rattle.options.specs.Wire.{optionLength, nonceLimit};
-ghost use Rattle.walk.specs.declared.Place.the-variants.{At};
-ghost use Rattle.ipv4.specs.Views.{put, putRequest};
-ghost use Rattle.ledger.specs.Calls.{lent, linkInRange};
-ghost use Rattle.inspect.specs.Sights.{requestOf};
-ghost use Rattle.router.specs.Decisions.{decided, writtenBy};
-ghost use Rattle.router.specs.Routers.{routerInRange, routedView, routed, silentlyRouted, wishOf, passage, ledgerRouter};
+ghost use Rattle.wire_rules.specs.Rates.Steps.{topCode};
+ghost use Rattle.wire_rules.specs.Options.Wire.{optionLength, nonceLimit};
+ghost use Rattle.wire_rules.specs.declared.Place.the-variants.{At};
+ghost use Rattle.wire_rules.specs.Ipv4.Views.{put, putRequest};
+ghost use Rattle.gateway_rules.specs.Ledgers.Calls.{lent, linkInRange};
+ghost use Rattle.gateway_rules.specs.Inspect.Sights.{requestOf};
+ghost use Rattle.gateway_rules.specs.Router.Decisions.{decided, writtenBy};
+ghost use Rattle.gateway_rules.specs.Router.Routers.{routerInRange, routedView, routed, silentlyRouted, wishOf, passage, ledgerRouter};
 ghost use Rattle.router.specs.Parts.{met, metView, ReadableWhere, decisionWritten};
 ghost use Rattle.router.specs.Replies.{routedTold, metTold};
-use inspect::Asking;
+use gateway_rules::Asking;
+use gateway_rules::Decision;
+use gateway_rules::Ledger;
 use inspect::Sight;
 use inspect::look;
 use ipv4::Forwarded;
 use ipv4::forward;
 use ipv4::pass_on;
 use ledger::Grant;
-use ledger::Ledger;
 use ledger::ask;
 use ledger::link_in_range;
 use options::NONCE_LIMIT;
@@ -32,20 +33,11 @@ use options::OPTION_LENGTH;
 use options::nonce::Nonce;
 use options::nonce::after_lowering;
 use options::request;
-use options::request::Request;
 use rates::TOP_CODE;
 use rates::lesser;
 use refusals::Refusal;
 use std::num::wrapping_sub_u8;
-
-// What a router decides of a request.
-pub enum Decision {
-    // There is nothing to decide: no rate is asked for.
-    Nothing,
-    // The request that goes on.
-    Approved(Request),
-    Denied,
-}
+use wire_rules::Request;
 
 pub enum Routed {
     Done,

@@ -14,18 +14,19 @@ use lib.Seq.{drop-cons, sets, sets-eq, length-sets, take-at, length-take-le}
 use Rattle.common.specs.Choice.{pick}
 use Rattle.common.proofs.Choice.{both-true, not-both, le-or-gt}
 use Rattle.refusals.specs.Reply.{Reply, answer, refuse}
-use Rattle.rates.specs.Steps.{topCode}
-use Rattle.options.specs.Wire.{nonceLimit}
-use Rattle.hops.specs.declared.Router.{Router}
-use Rattle.hops.specs.declared.Router.the-variants.{Knowing, Silent}
-use Rattle.hops.specs.Rows.{mostRouters, lengthOf, recordOf, rowOf}
-use Rattle.hops.specs.Claims.{Spells, no-record, record-2, record-3}
-use Rattle.hops.proofs.SpellLaws.{nonce-back, together}
-use Rattle.hops.proofs.Claims.{rows}
-use Rattle.rows.specs.declared.Hop.{Hop}
+use Rattle.wire_rules.specs.Rates.Steps.{topCode}
+use Rattle.wire_rules.specs.Options.Wire.{nonceLimit}
+use Rattle.path_rules.specs.declared.Router.{Router}
+use Rattle.path_rules.specs.declared.Router.the-variants.{Knowing, Silent}
+use Rattle.path_rules.specs.Hops.Rows.{mostRouters, lengthOf, recordOf, rowOf}
+use Rattle.path_rules.specs.Hops.Claims.{Spells, no-record, record-2, record-3}
+use Rattle.path_rules.proofs.Hops.SpellLaws.{nonce-back, together}
+use Rattle.path_rules.proofs.Hops.Claims.{rows}
+use Rattle.path_rules.specs.declared.Hop.{Hop}
 use Rattle.rows.specs.declared.Spelled.{Spelled}
-use Rattle.rows.specs.Rows.{routerOf, routersOf, hopInRange, allInRange, hopsRow}
+use Rattle.path_rules.specs.Rows.Rows.{routerOf, routersOf, hopInRange, allInRange, hopsRow}
 use Rattle.rows.specs.Parts.{room, lastPlace, nothingYet, takes, withHop, gathered, rowIn}
+use Rattle.path_rules.proofs.Rows.RangeLaws.{in-range}
 
 -- ---- a hop that is taken
 
@@ -35,12 +36,6 @@ pub record Taken (whole : Bool) (count len : ℕ) (hop : Hop) : Type 0 where
   pub fits : len ≤ lastPlace
   pub ceiling-high : hop .ceiling ≤ topCode
   pub fresh-high : hop .fresh < nonceLimit
-
-pub in-range : (hop : Hop) → hopInRange hop ≡ true → (hop .ceiling ≤ topCode) × (hop .fresh < nonceLimit)
-unfolding hopInRange
-in-range hop e =
-    let a = both-true (leb (hop .ceiling) topCode) (ltb (hop .fresh) nonceLimit) e in
-    (leb-true (hop .ceiling) topCode (a .0), ltb-true (hop .fresh) nonceLimit (a .1))
 
 pub taken : (whole : Bool) (count len : ℕ) (hop : Hop) → takes whole count len hop ≡ true → Taken whole count len hop
 unfolding takes

@@ -8,14 +8,14 @@ use lib.ListN.{length, set}
 use Rattle.refusals.specs.declared.Refusal.{Refusal}
 use Rattle.refusals.specs.Numbers.{numberOf}
 use Rattle.refusals.specs.Reply.{done, leaves}
-use Rattle.hops.specs.declared.Summary.{Summary}
+use Rattle.path_rules.specs.declared.Summary.{Summary}
 use Rattle.hops.specs.declared.SummaryAnswer.{SummaryAnswer}
 use Rattle.hops.specs.declared.SummaryAnswer.the-variants as SummaryAnswers
 use Rattle.hops.specs.declared.Verdict as code
 use Rattle.hops.specs.declared.VerdictAnswer.{VerdictAnswer}
 use Rattle.hops.specs.declared.VerdictAnswer.the-variants as VerdictAnswers
 use Rattle.hops.specs.Replies.{summaryTold, verdictAnswerTold}
-use Rattle.rows.specs.Results.{summaryLent, summaryResult, verdictResult}
+use Rattle.path_rules.specs.Rows.Results.{summaryLent, summaryResult, verdictResult}
 
 -- ---- the summary
 

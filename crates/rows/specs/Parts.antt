@@ -7,11 +7,11 @@ use lib.ListN.{take, replicate}
 use lib.Seq.{sets}
 use Rattle.common.specs.Choice.{pick}
 use Rattle.refusals.specs.Reply.{Reply, refuse}
-use Rattle.hops.specs.declared.Router.{Router}
-use Rattle.hops.specs.Rows.{mostRouters, knowingLength, lengthOf, recordOf, rowOf}
-use Rattle.rows.specs.declared.Hop.{Hop}
+use Rattle.path_rules.specs.declared.Router.{Router}
+use Rattle.path_rules.specs.Hops.Rows.{mostRouters, knowingLength, lengthOf, recordOf, rowOf}
+use Rattle.path_rules.specs.declared.Hop.{Hop}
 use Rattle.rows.specs.declared.Spelled.{Spelled}
-use Rattle.rows.specs.Rows.{routerOf, hopInRange}
+use Rattle.path_rules.specs.Rows.Rows.{routerOf, hopInRange}
 
 -- room for as many records as there can be
 abbrev pub room : ℕ

@@ -4,21 +4,18 @@ ghost use mathlib.Core.Path.{_≡_};
 ghost use Prim.Native.Nat.{_≤_, _<_};
 ghost use lib.Seq.{sets};
 ghost use Rattle.refusals.specs.Reply.{leaves, done};
-ghost use Rattle.rates.specs.Steps.{topCode};
-ghost use Rattle.options.specs.Wire.{nonceLimit};
-ghost use Rattle.sender.specs.Calls.{transport};
-ghost use Rattle.hops.specs.declared.Router.the-variants.{Knowing, Silent};
-ghost use Rattle.hops.specs.Rows.{mostRouters, recordOf};
-ghost use Rattle.hops.specs.Summaries.{summaryOver};
+ghost use Rattle.wire_rules.specs.Rates.Steps.{topCode};
+ghost use Rattle.wire_rules.specs.Options.Wire.{nonceLimit};
+ghost use Rattle.sender_rules.specs.Sender.Calls.{transport};
+ghost use Rattle.path_rules.specs.declared.Router.the-variants.{Knowing, Silent};
+ghost use Rattle.path_rules.specs.Hops.Rows.{mostRouters, recordOf};
+ghost use Rattle.path_rules.specs.Hops.Summaries.{summaryOver};
 ghost use Rattle.hops.specs.Replies.{summaryTold, verdictAnswerTold};
-ghost use Rattle.path.specs.Runs.{journey, callOver};
-ghost use Rattle.plan.specs.Lines.{ownTransport};
-ghost use Rattle.rows.specs.Rows.{hopInRange, hopsSummary, hopsCall};
-ghost use Rattle.rows.specs.Results.{summaryLent, summaryResult, openFor, verdictResult};
+ghost use Rattle.path_rules.specs.Path.Runs.{journey, callOver};
+ghost use Rattle.path_rules.specs.Plan.Lines.{ownTransport};
+ghost use Rattle.path_rules.specs.Rows.Rows.{hopInRange, hopsSummary, hopsCall};
+ghost use Rattle.path_rules.specs.Rows.Results.{summaryLent, summaryResult, openFor, verdictResult};
 ghost use Rattle.rows.specs.Parts.{lastPlace, nothingYet, takes as takesHop, withHop, gathered, rowIn};
-use connection::Connection;
-use connection::OpenRequest;
-use connection::State;
 use connection::fresh;
 use connection::with_state;
 use hops::KNOWING;
@@ -33,6 +30,7 @@ use hops::summarize;
 use options::NONCE_LIMIT;
 use path::Ran;
 use path::run;
+use path_rules::Hop;
 use plan::HEADERS;
 use plan::MSS;
 use plan::RTT;
@@ -40,15 +38,9 @@ use plan::SSTHRESH;
 use plan::WINDOW;
 use rates::TOP_CODE;
 use refusals::Refusal;
-
-// A router on a path: whether it knows Quick-Start, its ceiling and its fresh nonce. A row in which either number is out
-// of range, a silent hop's too, is refused with 7.
-#[repr(C)]
-pub struct Hop {
-    pub knows: bool,
-    pub ceiling: u32,
-    pub fresh: u32,
-}
+use sender_rules::Connection;
+use sender_rules::OpenRequest;
+use sender_rules::State;
 
 // The records of the hops taken so far, in the first `len` places, and how many hops they are; `whole` as long as every
 // hop met was taken.

@@ -2,12 +2,13 @@
 ghost use mathlib.Core.Path.{_≡_};
 ghost use Prim.Native.Nat.{_<_};
 ghost use lib.ListN.{length};
-ghost use Rattle.walk.specs.Walks.{look, walk};
+ghost use Rattle.wire_rules.specs.Walk.Walks.{look, walk};
 ghost use Rattle.walk.specs.Parts.{placeOf, isFound, offsetOf};
 ghost use Rattle.walk.specs.Replies.{stepTold, findingTold};
 use options::OPTION_LENGTH;
 use options::request::REQUEST;
 use refusals::Refusal;
+use wire_rules::Place;
 
 // The two options of a single byte: the end of the area, and one that is only there to fill it.
 const END: u8 = 0;
@@ -16,13 +17,6 @@ const NO_OPERATION: u8 = 1;
 
 // The least length byte: it counts the type and itself.
 const LEAST_LENGTH: usize = 2;
-
-// Where a Quick-Start option stands, by the offset of its type: in the options area as `find` answers, in
-// the packet as `ipv4::locate` does.
-pub enum Place {
-    Nowhere,
-    At(usize),
-}
 
 pub enum Finding {
     Found(Place),

@@ -1,7 +1,7 @@
 -- `congestion::adjust` meets its contract: ssthresh and window are what its callees gave. Assumes nothing.
 use Prim.Native.Nat.{ℕ}
 use mathlib.Core.Path.{ap₂}
-use Rattle.connection.specs.Records.{withWindow, withSsthresh}
+use Rattle.sender_rules.specs.Connections.Records.{withWindow, withSsthresh}
 use borrow.Author.Needs.{needs}
 use Rattle.congestion.proofs.adjust.Statement.{statement}
 use Rattle.congestion.proofs.adjust.Tie as tie

@@ -3,10 +3,10 @@ use mathlib.Core.Bool.{true, false}
 use mathlib.Core.Path.{_≡_, ap, _∙_}
 use Rattle.common.specs.Choice.{within}
 use Rattle.common.proofs.Choice.{held, failed}
-use Rattle.rates.specs.Window.{largestSegment}
-use Rattle.connection.specs.Records.{inRange}
-use Rattle.congestion.specs.Calls.{afterEcho}
-use Rattle.congestion.proofs.CallLaws.{echo-record, echo-segment, echo-said}
+use Rattle.wire_rules.specs.Rates.Window.{largestSegment}
+use Rattle.sender_rules.specs.Connections.Records.{inRange}
+use Rattle.sender_rules.specs.Congestion.Calls.{afterEcho}
+use Rattle.sender_rules.proofs.Congestion.CallLaws.{echo-record, echo-segment, echo-said}
 use borrow.Author.Needs.{needs}
 use Rattle.congestion.proofs.echo.Statement.{statement}
 use Rattle.congestion.proofs.echo.Tie as tie

@@ -1,7 +1,7 @@
 -- `congestion::halved_down_to` meets its contract: it is the lesser of the window and the greater of two. Assumes nothing.
 use mathlib.Core.Path.{_∙_, ap}
 use Prim.Native.Nat.{ℕ, min}
-use Rattle.congestion.specs.Echoes.{halved}
+use Rattle.sender_rules.specs.Congestion.Echoes.{halved}
 use borrow.Author.Needs.{needs}
 use Rattle.congestion.proofs.halved_down_to.Statement.{statement}
 use Rattle.congestion.proofs.halved_down_to.Tie as tie

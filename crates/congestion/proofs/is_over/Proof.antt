@@ -3,7 +3,7 @@ use Prim.Native.Nat.{_+_}
 use mathlib.Core.Path.{refl, sym}
 use native.Mathlib.Omega.{arith}
 use borrow.Author.Tests.{le-ltb}
-use Rattle.congestion.specs.Phases.{isOver}
+use Rattle.sender_rules.specs.Congestion.Phases.{isOver}
 use Rattle.congestion.proofs.TestLaws.{sub-beyond}
 use borrow.Author.Needs.{needs}
 use Rattle.congestion.proofs.is_over.Statement.{statement}

@@ -3,7 +3,7 @@ use Prim.Native.Nat.{_+_}
 use mathlib.Core.Path.{sym}
 use native.Mathlib.Omega.{arith}
 use borrow.Author.Tests.{le-leb}
-use Rattle.congestion.specs.Phases.{isRecent}
+use Rattle.sender_rules.specs.Congestion.Phases.{isRecent}
 use Rattle.congestion.proofs.TestLaws.{sub-within}
 use borrow.Author.Needs.{needs}
 use Rattle.congestion.proofs.is_recent.Statement.{statement}

@@ -3,7 +3,7 @@ use Prim.Native.Nat.{_*_}
 use mathlib.Core.Path.{refl, sym}
 use native.Mathlib.Omega.{arith}
 use borrow.Author.Tests.{le-leb}
-use Rattle.congestion.specs.Phases.{validated}
+use Rattle.sender_rules.specs.Congestion.Phases.{validated}
 use borrow.Author.Needs.{needs}
 use Rattle.congestion.proofs.is_validated.Statement.{statement}
 use Rattle.congestion.proofs.is_validated.Tie as tie

@@ -1,8 +1,8 @@
 -- `congestion::judge` meets its contract: the window is validated by the pipeACK of the samples that are not too old. Assumes nothing.
 use Prim.Native.Nat.{ℕ}
 use mathlib.Core.Path.{ap, _∙_}
-use Rattle.connection.specs.Records.{samplesOf}
-use Rattle.congestion.specs.Phases.{pipeAck, validated, isValidated}
+use Rattle.sender_rules.specs.Connections.Records.{samplesOf}
+use Rattle.sender_rules.specs.Congestion.Phases.{pipeAck, validated, isValidated}
 use borrow.Author.Needs.{needs}
 use Rattle.congestion.proofs.judge.Statement.{statement}
 use Rattle.congestion.proofs.judge.Tie as tie

@@ -1,6 +1,6 @@
 -- `congestion::or_greater` meets its contract: a sample that is not recent leaves what others gave. Assumes nothing.
 use Rattle.common.proofs.Choice.{held, failed}
-use Rattle.congestion.specs.Phases.{orGreater}
+use Rattle.sender_rules.specs.Congestion.Phases.{orGreater}
 use borrow.Author.Needs.{needs}
 use Rattle.congestion.proofs.or_greater.Statement.{statement}
 use Rattle.congestion.proofs.or_greater.Tie as tie

@@ -2,10 +2,10 @@
 use mathlib.Core.Bool.{true, false}
 use mathlib.Core.Path.{_≡_, sym, ap, _∙_}
 use Rattle.common.proofs.Choice.{held, failed}
-use Rattle.connection.specs.Records.{inRange}
-use Rattle.congestion.specs.Phases.{isEarly, phaseInRange}
-use Rattle.congestion.specs.Calls.{afterPhase}
-use Rattle.congestion.proofs.CallLaws.{ranges, round-trip, phase-record, phase-numbers, phase-early, phase-said}
+use Rattle.sender_rules.specs.Connections.Records.{inRange}
+use Rattle.sender_rules.specs.Congestion.Phases.{isEarly, phaseInRange}
+use Rattle.sender_rules.specs.Congestion.Calls.{afterPhase}
+use Rattle.sender_rules.proofs.Congestion.CallLaws.{ranges, round-trip, phase-record, phase-numbers, phase-early, phase-said}
 use borrow.Author.Needs.{needs}
 use Rattle.congestion.proofs.phase.Statement.{statement}
 use Rattle.congestion.proofs.phase.Tie as tie

@@ -1,6 +1,6 @@
 -- `congestion::phase_in_range` meets its contract: both numbers are tested. Assumes nothing.
 use Rattle.common.proofs.Choice.{held, failed}
-use Rattle.congestion.specs.Phases.{phaseInRange}
+use Rattle.sender_rules.specs.Congestion.Phases.{phaseInRange}
 use borrow.Author.Needs.{needs}
 use Rattle.congestion.proofs.phase_in_range.Statement.{statement}
 use Rattle.congestion.proofs.phase_in_range.Tie as tie

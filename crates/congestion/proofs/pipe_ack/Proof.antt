@@ -3,7 +3,7 @@ use Prim.Native.Nat.{_-_, _≤_}
 use mathlib.Core.Path.{_≡_, ap, _∙_}
 use native.Mathlib.Omega.{arith}
 use lib.ListN.{length, take, drop}
-use Rattle.congestion.specs.Phases.{orGreater, pipeAck}
+use Rattle.sender_rules.specs.Congestion.Phases.{orGreater, pipeAck}
 use Rattle.congestion.specs.Replies.{pipeAckTold}
 use Rattle.congestion.proofs.PipeLaws.{further, none-yet, all}
 use borrow.Author.Needs.{needs}

@@ -1,8 +1,8 @@
 -- `congestion::react` meets its contract: the record with the mark has window and ssthresh set to the halved window. Assumes nothing.
 use Prim.Native.Nat.{ℕ}
 use mathlib.Core.Path.{ap₂}
-use Rattle.connection.specs.declared.Connection.{Connection}
-use Rattle.connection.specs.Records.{withWindow, withSsthresh}
+use Rattle.sender_rules.specs.declared.Connection.{Connection}
+use Rattle.sender_rules.specs.Connections.Records.{withWindow, withSsthresh}
 use borrow.Author.Needs.{needs}
 use Rattle.congestion.proofs.react.Statement.{statement}
 use Rattle.congestion.proofs.react.Tie as tie

@@ -1,9 +1,9 @@
 -- `congestion::run_on` meets its contract: the period starts again where it was over, and else goes on. Assumes nothing.
 use mathlib.Core.Path.{sym, ap, _∙_}
-use Rattle.connection.specs.declared.Connection.{Connection}
-use Rattle.connection.specs.declared.Moment.the-variants.{At}
-use Rattle.connection.specs.Records.{withPeriod}
-use Rattle.congestion.proofs.PhaseLaws.{period-over, period-on}
+use Rattle.sender_rules.specs.declared.Connection.{Connection}
+use Rattle.sender_rules.specs.declared.Moment.the-variants.{At}
+use Rattle.sender_rules.specs.Connections.Records.{withPeriod}
+use Rattle.sender_rules.proofs.Congestion.PhaseLaws.{period-over, period-on}
 use borrow.Author.Needs.{needs}
 use Rattle.congestion.proofs.run_on.Statement.{statement}
 use Rattle.congestion.proofs.run_on.Tie as tie

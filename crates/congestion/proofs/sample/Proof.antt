@@ -3,9 +3,9 @@ use mathlib.Core.Bool.{true}
 use mathlib.Core.Path.{_≡_, sym, ap, _∙_}
 use Rattle.common.proofs.Choice.{held, failed}
 use Rattle.refusals.specs.Reply.{done, leaves}
-use Rattle.connection.specs.Records.{inRange}
-use Rattle.congestion.specs.Phases.{sampleOf}
-use Rattle.congestion.proofs.CallLaws.{ranges, sample-record, sample-bytes, sample-early, sample-done}
+use Rattle.sender_rules.specs.Connections.Records.{inRange}
+use Rattle.sender_rules.specs.Congestion.Phases.{sampleOf}
+use Rattle.sender_rules.proofs.Congestion.CallLaws.{ranges, sample-record, sample-bytes, sample-early, sample-done}
 use borrow.Author.Needs.{needs}
 use Rattle.congestion.proofs.sample.Statement.{statement}
 use Rattle.congestion.proofs.sample.Tie as tie

@@ -1,6 +1,6 @@
 -- `congestion::started` meets its contract: a period that runs keeps its start. Assumes nothing.
 use mathlib.Core.Path.{refl}
-use Rattle.congestion.specs.Phases.{startedAt}
+use Rattle.sender_rules.specs.Congestion.Phases.{startedAt}
 use borrow.Author.Needs.{needs}
 use Rattle.congestion.proofs.started.Statement.{statement}
 use Rattle.congestion.proofs.started.Tie as tie

@@ -1,7 +1,7 @@
 -- `connection::fresh` meets its contract: of a fresh record the window and ssthresh alone can be out of range. Assumes nothing.
 use mathlib.Core.Path.{refl, sym, _∙_}
 use Rattle.common.proofs.Choice.{held, failed}
-use Rattle.connection.proofs.RecordLaws.{fresh-ranges}
+use Rattle.sender_rules.proofs.Connections.RecordLaws.{fresh-ranges}
 use borrow.Author.Needs.{needs}
 use Rattle.connection.proofs.fresh.Statement.{statement}
 use Rattle.connection.proofs.fresh.Tie as tie

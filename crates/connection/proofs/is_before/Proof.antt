@@ -1,6 +1,6 @@
 -- `connection::is_before` meets its contract: nothing lies before a moment that is absent. Assumes nothing.
 use mathlib.Core.Path.{refl}
-use Rattle.connection.specs.Records.{isBefore}
+use Rattle.sender_rules.specs.Connections.Records.{isBefore}
 use borrow.Author.Needs.{needs}
 use Rattle.connection.proofs.is_before.Statement.{statement}
 use Rattle.connection.proofs.is_before.Tie as tie

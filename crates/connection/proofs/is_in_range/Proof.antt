@@ -1,7 +1,7 @@
 -- `connection::is_in_range` meets its contract: each return follows from the tests that led there. Assumes nothing.
 use borrow.Author.Tests.{le-leb, lt-leb}
 use Rattle.common.proofs.Choice.{held, failed}
-use Rattle.connection.specs.Records.{mostBytes, mostSamples, inRange}
+use Rattle.sender_rules.specs.Connections.Records.{mostBytes, mostSamples, inRange}
 use borrow.Author.Needs.{needs}
 use Rattle.connection.proofs.is_in_range.Statement.{statement}
 use Rattle.connection.proofs.is_in_range.Tie as tie

@@ -4,7 +4,7 @@ use mathlib.Core.Path.{_≡_, refl, sym, _∙_}
 use lib.ListN.{length, take, drop}
 use native.Mathlib.Nat.{sub-zero}
 use native.Mathlib.Omega.{arith}
-use Rattle.connection.specs.Records.{bytesInRange}
+use Rattle.sender_rules.specs.Connections.Records.{bytesInRange}
 use Rattle.connection.proofs.SampleLaws.{one-out, one-in, none-left}
 use borrow.Author.Needs.{needs}
 use Rattle.connection.proofs.samples_in_range.Statement.{statement}

@@ -1,7 +1,7 @@
 -- `connection::state_in_range` meets its contract: each state's own test. Assumes nothing.
 use mathlib.Core.Path.{refl}
 use Rattle.common.proofs.Choice.{held, failed}
-use Rattle.connection.specs.Records.{stateInRange}
+use Rattle.sender_rules.specs.Connections.Records.{stateInRange}
 use borrow.Author.Needs.{needs}
 use Rattle.connection.proofs.state_in_range.Statement.{statement}
 use Rattle.connection.proofs.state_in_range.Tie as tie

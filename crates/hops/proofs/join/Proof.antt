@@ -2,9 +2,9 @@
 use Prim.Native.Nat.{_+_}
 use native.Mathlib.Omega.{arith}
 use Rattle.common.proofs.Choice.{held, failed}
-use Rattle.hops.specs.Summaries.{joined}
+use Rattle.path_rules.specs.Hops.Summaries.{joined}
 use borrow.Author.Tests.{le-leb, lt-leb}
-use Rattle.hops.proofs.SummaryLaws.{ranged-tested}
+use Rattle.path_rules.proofs.Hops.SummaryLaws.{ranged-tested}
 use borrow.Author.Needs.{needs}
 use Rattle.hops.proofs.join.Statement.{statement}
 use Rattle.hops.proofs.join.Tie as tie

@@ -1,8 +1,8 @@
 -- `hops::judge` meets its contract: the tests in the paper's order. Assumes nothing.
 use mathlib.Core.Path.{sym, ap, _∙_}
 use native.Mathlib.Omega.{arith}
-use Rattle.hops.specs.Verdicts.{accepted}
-use Rattle.hops.proofs.VerdictLaws.{is-lost, is-unanswered, is-refused, is-accepted}
+use Rattle.path_rules.specs.Hops.Verdicts.{accepted}
+use Rattle.path_rules.proofs.Hops.VerdictLaws.{is-lost, is-unanswered, is-refused, is-accepted}
 use borrow.Author.Needs.{needs}
 use Rattle.hops.proofs.judge.Statement.{statement}
 use Rattle.hops.proofs.judge.Tie as tie

@@ -1,5 +1,5 @@
 -- `hops::length_of` meets its contract, case by case. Assumes nothing.
-use Rattle.hops.specs.Rows.{lengthOf}
+use Rattle.path_rules.specs.Hops.Rows.{lengthOf}
 use borrow.Author.Needs.{needs}
 use Rattle.hops.proofs.length_of.Statement.{statement}
 use Rattle.hops.proofs.length_of.Tie as tie

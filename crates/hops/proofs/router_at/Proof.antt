@@ -3,8 +3,8 @@ use mathlib.Core.Path.{sym, ap₂, _∙_}
 use mathlib.Core.Option.{some}
 use Prim.Native.Nat.{ℕ}
 use native.Mathlib.Omega.{arith}
-use Rattle.hops.specs.declared.Router.the-variants.{Knowing}
-use Rattle.hops.proofs.RowLaws.{past-row, silent-front, other-front, cut-front, high-front, knowing-front}
+use Rattle.path_rules.specs.declared.Router.the-variants.{Knowing}
+use Rattle.path_rules.proofs.Hops.RowLaws.{past-row, silent-front, other-front, cut-front, high-front, knowing-front}
 use borrow.Author.Needs.{needs}
 use Rattle.hops.proofs.router_at.Statement.{statement}
 use Rattle.hops.proofs.router_at.Tie as tie

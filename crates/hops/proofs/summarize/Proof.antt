@@ -3,9 +3,9 @@ use mathlib.Core.List.{List}
 use mathlib.Core.Path.{sym, ap, _∙_}
 use native.Mathlib.Omega.{arith}
 use Rattle.refusals.specs.Reply.{Reply, answer, andThen}
-use Rattle.hops.specs.declared.Router.{Router}
-use Rattle.hops.specs.declared.Summary.{Summary}
-use Rattle.hops.specs.Summaries.{summaryOf}
+use Rattle.path_rules.specs.declared.Router.{Router}
+use Rattle.path_rules.specs.declared.Summary.{Summary}
+use Rattle.path_rules.specs.Hops.Summaries.{summaryOf}
 use Rattle.hops.proofs.SurveyLaws.{whole-row, no-row}
 use borrow.Author.Needs.{needs}
 use Rattle.hops.proofs.summarize.Statement.{statement}

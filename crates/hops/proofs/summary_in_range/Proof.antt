@@ -1,6 +1,6 @@
 -- `hops::summary_in_range` meets its contract. Assumes nothing.
 use Rattle.common.proofs.Choice.{tests}
-use Rattle.hops.specs.Summaries.{summaryInRange}
+use Rattle.path_rules.specs.Hops.Summaries.{summaryInRange}
 use Rattle.hops.proofs.summary_in_range.Statement.{statement}
 use Rattle.hops.proofs.summary_in_range.Tie as tie
 

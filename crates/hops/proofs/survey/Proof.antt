@@ -4,11 +4,11 @@ use mathlib.Core.Option.{some}
 use mathlib.Core.Path.{_≡_, sym, ap, _∙_}
 use native.Mathlib.Omega.{arith}
 use lib.ListN.{length, drop}
-use Rattle.hops.specs.declared.Summary.{Summary}
-use Rattle.hops.specs.Rows.{frontOf}
+use Rattle.path_rules.specs.declared.Summary.{Summary}
+use Rattle.path_rules.specs.Hops.Rows.{frontOf}
 use Rattle.hops.specs.Replies.{frontTold}
 use Rattle.hops.proofs.SurveyLaws.{Going, begins, fits-behind, goes-on, ends, ends-full}
-use Rattle.hops.proofs.JoinLaws.{routers-more}
+use Rattle.path_rules.proofs.Hops.JoinLaws.{routers-more}
 use borrow.Author.Needs.{needs}
 use Rattle.hops.proofs.survey.Statement.{statement}
 use Rattle.hops.proofs.survey.Tie as tie

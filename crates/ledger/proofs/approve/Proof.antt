@@ -2,10 +2,10 @@
 use Prim.Native.Nat.{ℕ, _-_}
 use mathlib.Core.Path.{_≡_, ap, _∙_}
 use native.Mathlib.Omega.{arith}
-use Rattle.rates.specs.Steps.{rateOf, greatestUpTo}
-use Rattle.ledger.specs.Rows.{total, charged}
-use Rattle.ledger.specs.Calls.{lent, grantOf}
-use Rattle.ledger.proofs.CallLaws.{grant-rule}
+use Rattle.wire_rules.specs.Rates.Steps.{rateOf, greatestUpTo}
+use Rattle.gateway_rules.specs.Ledgers.Rows.{total, charged}
+use Rattle.gateway_rules.specs.Ledgers.Calls.{lent, grantOf}
+use Rattle.gateway_rules.proofs.Ledgers.CallLaws.{grant-rule}
 use borrow.Author.Needs.{needs}
 use Rattle.ledger.proofs.approve.Statement.{statement}
 use Rattle.ledger.proofs.approve.Tie as tie

@@ -7,10 +7,11 @@ use Rattle.common.specs.Choice.{within}
 use Rattle.common.proofs.Choice.{within-high, held, failed}
 use Rattle.refusals.specs.Reply.{Reply, answer, leaves}
 use Rattle.refusals.proofs.ReplyLaws.{went, stayed}
-use Rattle.rates.specs.Steps.{topCode}
-use Rattle.ledger.specs.Calls.{lent, moveReply, Granted}
-use Rattle.ledger.specs.Replies.{moveTold, codeIn, linkIn}
-use Rattle.ledger.proofs.CallLaws.{Sound, moved-sound, move-answered, ask-seven, ask-after}
+use Rattle.wire_rules.specs.Rates.Steps.{topCode}
+use Rattle.gateway_rules.specs.Ledgers.Calls.{lent, moveReply, Granted}
+use Rattle.ledger.specs.Replies.{moveTold}
+use Rattle.gateway_rules.specs.Ledgers.Held.{codeIn, linkIn}
+use Rattle.gateway_rules.proofs.Ledgers.CallLaws.{Sound, moved-sound, move-answered, ask-seven, ask-after}
 use borrow.Author.Needs.{needs}
 use Rattle.ledger.proofs.ask.Statement.{statement}
 use Rattle.ledger.proofs.ask.Tie as tie

@@ -5,7 +5,7 @@ use lib.Dec.{leb}
 use borrow.Author.Tests.{le-leb}
 use Rattle.refusals.proofs.ReplyLaws.{answered, refused}
 use Rattle.common.proofs.Choice.{clash}
-use Rattle.rates.specs.Steps.{topCode, rateOf}
+use Rattle.wire_rules.specs.Rates.Steps.{topCode, rateOf}
 use Rattle.rates.specs.Replies.{rateTold}
 use borrow.Author.Needs.{needs}
 use Rattle.ledger.proofs.bits_of.Statement.{statement}

@@ -1,6 +1,6 @@
 -- `ledger::greatest_code` meets its contract: with the codes limited, the greatest is the lesser of the limit and the code rounded down. Assumes nothing.
 use native.Mathlib.Omega.{arith}
-use Rattle.rates.proofs.StepLaws.{limited}
+use Rattle.wire_rules.proofs.Rates.StepLaws.{limited}
 use borrow.Author.Needs.{needs}
 use Rattle.ledger.proofs.greatest_code.Statement.{statement}
 use Rattle.ledger.proofs.greatest_code.Tie as tie

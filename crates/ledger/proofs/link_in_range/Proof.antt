@@ -1,7 +1,7 @@
 -- `ledger::link_in_range` meets its contract: each return says how the tests of `linkInRange` fell. Assumes nothing.
 use Rattle.common.specs.Choice.{within}
 use Rattle.common.proofs.Choice.{held, failed}
-use Rattle.ledger.specs.Calls.{mostSlots, linkInRange}
+use Rattle.gateway_rules.specs.Ledgers.Calls.{mostSlots, linkInRange}
 use borrow.Author.Needs.{needs}
 use Rattle.ledger.proofs.link_in_range.Statement.{statement}
 use Rattle.ledger.proofs.link_in_range.Tie as tie

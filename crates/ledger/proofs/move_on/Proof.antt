@@ -7,10 +7,10 @@ use native.Mathlib.Omega.{arith}
 use lib.ListN.{length}
 use Rattle.common.proofs.Choice.{held, failed}
 use Rattle.refusals.specs.Reply.{leaves, done}
-use Rattle.ledger.specs.Rows.{total}
-use Rattle.ledger.specs.Calls.{lent, linkInRange}
-use Rattle.ledger.specs.Claims.{InRange}
-use Rattle.ledger.proofs.CallLaws.{ranged, Sound, move-seven, move-eight, move-nine, move-done}
+use Rattle.gateway_rules.specs.Ledgers.Rows.{total}
+use Rattle.gateway_rules.specs.Ledgers.Calls.{lent, linkInRange}
+use Rattle.gateway_rules.specs.Ledgers.Claims.{InRange}
+use Rattle.gateway_rules.proofs.Ledgers.CallLaws.{ranged, Sound, move-seven, move-eight, move-nine, move-done}
 use borrow.Author.Needs.{needs}
 use Rattle.ledger.proofs.move_on.Statement.{statement}
 use Rattle.ledger.proofs.move_on.Tie as tie

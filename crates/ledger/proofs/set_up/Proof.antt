@@ -1,7 +1,7 @@
 -- `ledger::set_up` meets its contract: either nothing is written, or every slot is zeroed. Assumes nothing.
 use lib.ListN.{length}
 use Rattle.common.proofs.Choice.{held, failed}
-use Rattle.ledger.specs.Calls.{linkInRange}
+use Rattle.gateway_rules.specs.Ledgers.Calls.{linkInRange}
 use borrow.Author.Needs.{needs}
 use Rattle.ledger.proofs.set_up.Statement.{statement}
 use Rattle.ledger.proofs.set_up.Tie as tie

@@ -3,7 +3,7 @@ use native.Mathlib.Omega.{arith}
 use mathlib.Core.Path.{_∙_}
 use lib.ListN.{length-set, drop-of-length-le}
 use lib.Seq.{sets-eq}
-use Rattle.options.specs.Wire.{optionBytes}
+use Rattle.wire_rules.specs.Options.Wire.{optionBytes}
 use borrow.Author.Needs.{needs}
 use Rattle.options.proofs.put.Statement.{statement}
 use Rattle.options.proofs.put.Tie as tie

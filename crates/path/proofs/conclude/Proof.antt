@@ -1,9 +1,9 @@
 -- `path::conclude` meets its contract: by the receiver's reaction, and the sender takes the bytes that it left. Assumes nothing.
 use mathlib.Core.Path.{sym, ap, _∙_}
 use Rattle.receiver.specs.Replies.{receivedTold}
-use Rattle.sender.specs.Calls.{transport}
-use Rattle.path.specs.Runs.{pathCalls}
-use Rattle.path.proofs.RunLaws.{not-received, not-answered, was-answered}
+use Rattle.sender_rules.specs.Sender.Calls.{transport}
+use Rattle.path_rules.specs.Path.Runs.{pathCalls}
+use Rattle.path_rules.proofs.Path.RunLaws.{not-received, not-answered, was-answered}
 use borrow.Author.Needs.{needs}
 use Rattle.path.proofs.conclude.Statement.{statement}
 use Rattle.path.proofs.conclude.Tie as tie

@@ -1,8 +1,8 @@
 -- `path::hop` meets its contract: each kind of router does what its call does. Assumes nothing.
 use mathlib.Core.Path.{sym, ap, _∙_}
 use Rattle.refusals.specs.Reply.{done, leaves}
-use Rattle.hops.specs.declared.Router.{Router}
-use Rattle.path.specs.Runs.{hop}
+use Rattle.path_rules.specs.declared.Router.{Router}
+use Rattle.path_rules.specs.Path.Runs.{hop}
 use borrow.Author.Needs.{needs}
 use Rattle.path.proofs.hop.Statement.{statement}
 use Rattle.path.proofs.hop.Tie as tie

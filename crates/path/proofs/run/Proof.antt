@@ -3,12 +3,12 @@ use mathlib.Core.Bool.{true}
 use mathlib.Core.Path.{_≡_, sym, ap, _∙_}
 use Rattle.common.proofs.Choice.{held, failed}
 use Rattle.refusals.specs.Reply.{answer}
-use Rattle.hops.specs.Rows.{mostRouters, hopsFrom, rowOf}
+use Rattle.path_rules.specs.Hops.Rows.{mostRouters, hopsFrom, rowOf}
 use Rattle.hops.proofs.SurveyLaws.{whole-row, no-row}
-use Rattle.sender.specs.Calls.{transport}
+use Rattle.sender_rules.specs.Sender.Calls.{transport}
 use Rattle.path.specs.Replies.{startTold}
-use Rattle.path.specs.Runs.{runInRange}
-use Rattle.path.proofs.RunLaws.{call-no-row, call-out, call-refused, call-ran}
+use Rattle.path_rules.specs.Path.Runs.{runInRange}
+use Rattle.path_rules.proofs.Path.RunLaws.{call-no-row, call-out, call-refused, call-ran}
 use borrow.Author.Needs.{needs}
 use Rattle.path.proofs.run.Statement.{statement}
 use Rattle.path.proofs.run.Tie as tie

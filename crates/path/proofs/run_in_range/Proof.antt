@@ -1,6 +1,6 @@
 -- `path::run_in_range` meets its contract: the three tests are those of the definition. Assumes nothing.
 use Rattle.common.proofs.Choice.{held, failed}
-use Rattle.path.specs.Runs.{runInRange}
+use Rattle.path_rules.specs.Path.Runs.{runInRange}
 use borrow.Author.Tests.{le-leb, lt-leb}
 use borrow.Author.Needs.{needs}
 use Rattle.path.proofs.run_in_range.Statement.{statement}

@@ -1,10 +1,10 @@
 -- `path::run_through` meets its contract: lost where the travel ended with a refusal, else by receiver and sender. Assumes nothing.
 use mathlib.Core.Path.{sym, ap, _∙_}
 use Rattle.router.specs.Replies.{routedTold}
-use Rattle.hops.specs.Rows.{mostRouters, hopsFrom}
-use Rattle.sender.specs.Calls.{transport}
-use Rattle.path.specs.Runs.{pathCalls}
-use Rattle.path.proofs.RunLaws.{run-lost, run-arrived}
+use Rattle.path_rules.specs.Hops.Rows.{mostRouters, hopsFrom}
+use Rattle.sender_rules.specs.Sender.Calls.{transport}
+use Rattle.path_rules.specs.Path.Runs.{pathCalls}
+use Rattle.path_rules.proofs.Path.RunLaws.{run-lost, run-arrived}
 use borrow.Author.Needs.{needs}
 use Rattle.path.proofs.run_through.Statement.{statement}
 use Rattle.path.proofs.run_through.Tie as tie

@@ -2,7 +2,7 @@
 use mathlib.Core.Path.{sym, ap}
 use Rattle.sender.specs.declared.ResponseAnswer.{ResponseAnswer}
 use Rattle.sender.specs.Replies.{acceptedTold}
-use Rattle.path.specs.Runs.{saidOf}
+use Rattle.path_rules.specs.Path.Runs.{saidOf}
 use borrow.Author.Needs.{needs}
 use Rattle.path.proofs.said.Statement.{statement}
 use Rattle.path.proofs.said.Tie as tie

@@ -1,5 +1,5 @@
 -- `plan::bad_line` meets its contract. Assumes nothing.
-use Rattle.plan.specs.Lines.{badLine}
+use Rattle.path_rules.specs.Plan.Lines.{badLine}
 use borrow.Author.Needs.{needs}
 use Rattle.plan.proofs.bad_line.Statement.{statement}
 use Rattle.plan.proofs.bad_line.Tie as tie

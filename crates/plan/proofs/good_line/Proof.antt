@@ -2,11 +2,12 @@
 use mathlib.Core.Path.{_≡_, sym, ap, _∙_}
 use Rattle.refusals.specs.Reply.{answer}
 use Rattle.refusals.proofs.ReplyLaws.{same-answer}
-use Rattle.hops.specs.Rows.{mostRouters}
+use Rattle.path_rules.specs.Hops.Rows.{mostRouters}
 use Rattle.hops.specs.Replies.{verdictTold, verdictAnswerTold}
-use Rattle.plan.specs.Records.{hopsOf, planOf}
-use Rattle.plan.specs.Lines.{verdictFor, verdictLine}
-use Rattle.plan.proofs.RunPathLaws.{same-run, read-said, never-refused}
+use Rattle.path_rules.specs.Plan.Records.{hopsOf, planOf}
+use Rattle.path_rules.specs.Plan.Lines.{verdictFor, verdictLine}
+use Rattle.path_rules.proofs.Plan.RunPathLaws.{same-run, read-said}
+use Rattle.plan.proofs.AnswerLaws.{never-refused}
 use borrow.Author.Needs.{needs}
 use Rattle.plan.proofs.good_line.Statement.{statement}
 use Rattle.plan.proofs.good_line.Tie as tie

@@ -2,7 +2,7 @@
 use mathlib.Core.Path.{_≡_, sym, ap}
 use lib.ListN.{length}
 use Rattle.common.proofs.Lists.{written-out}
-use Rattle.path.specs.Demands.{headerWith}
+use Rattle.path_rules.specs.Path.Demands.{headerWith}
 use borrow.Author.Needs.{needs}
 use Rattle.plan.proofs.header_with.Statement.{statement}
 use Rattle.plan.proofs.header_with.Tie as tie

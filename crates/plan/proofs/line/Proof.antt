@@ -5,12 +5,12 @@ use mathlib.Core.Path.{_≡_, sym, ap, _∙_}
 use native.Mathlib.Omega.{arith}
 use lib.ListN.{length}
 use Rattle.common.proofs.Choice.{held, failed}
-use Rattle.hops.specs.Rows.{mostRouters}
-use Rattle.plan.specs.Records.{startsRequest, hopsOf}
-use Rattle.plan.specs.Lines.{lineFor, lineOf}
-use Rattle.plan.proofs.InputLaws.{request-parts}
+use Rattle.path_rules.specs.Hops.Rows.{mostRouters}
+use Rattle.path_rules.specs.Plan.Records.{startsRequest, hopsOf}
+use Rattle.path_rules.specs.Plan.Lines.{lineFor, lineOf}
+use Rattle.path_rules.proofs.Plan.InputLaws.{request-parts}
 use Rattle.plan.proofs.TextLaws.{text-length}
-use Rattle.plan.proofs.ReadLaws.{surveyed, end-near, bad-request, bad-receiver, bad-end, good-plan}
+use Rattle.path_rules.proofs.Plan.ReadLaws.{surveyed, end-near, bad-request, bad-receiver, bad-end, good-plan}
 use borrow.Author.Needs.{needs}
 use Rattle.plan.proofs.line.Statement.{statement}
 use Rattle.plan.proofs.line.Tie as tie

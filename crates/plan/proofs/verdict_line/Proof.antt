@@ -1,7 +1,7 @@
 -- `plan::verdict_line` meets its contract, by the kind of verdict. Assumes nothing.
 use mathlib.Core.Path.{refl, ap, _∙_}
 use native.Mathlib.Omega.{arith}
-use Rattle.plan.specs.Lines.{numbered, noneWord, verdictLine}
+use Rattle.path_rules.specs.Plan.Lines.{numbered, noneWord, verdictLine}
 use borrow.Author.Needs.{needs}
 use Rattle.plan.proofs.verdict_line.Statement.{statement}
 use Rattle.plan.proofs.verdict_line.Tie as tie

@@ -3,7 +3,8 @@ use mathlib.Core.List.{List, [], _∷_, _++_, append-assoc}
 use mathlib.Core.Path.{ap, _∙_}
 use native.Mathlib.Omega.{arith}
 use Prim.Native.Nat.{ℕ}
-use Rattle.plan.specs.Lines.{textOf, decimal}
+use Rattle.path_rules.specs.Plan.Lines.{decimal}
+use Rattle.plan.specs.Texts.{textOf}
 use borrow.Author.Needs.{needs}
 use Rattle.plan.proofs.with_end.Statement.{statement}
 use Rattle.plan.proofs.with_end.Tie as tie

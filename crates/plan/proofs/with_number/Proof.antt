@@ -3,7 +3,7 @@ use Prim.Native.Nat.{ℕ, _+_, _/_, _%_}
 use mathlib.Core.List.{List, [], _∷_, _++_}
 use mathlib.Core.Path.{ap, _∙_}
 use native.Mathlib.Omega.{arith}
-use Rattle.plan.specs.Lines.{textOf}
+use Rattle.plan.specs.Texts.{textOf}
 use Rattle.plan.proofs.TextLaws.{one-digit, two-digits, three-digits, four-digits}
 use borrow.Author.Needs.{needs}
 use Rattle.plan.proofs.with_number.Statement.{statement}

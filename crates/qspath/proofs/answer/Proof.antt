@@ -5,7 +5,7 @@ use mathlib.Core.Path.{_≡_, sym, subst}
 use native.Mathlib.Omega.{arith}
 use lib.ListN.{length, drop, length-append}
 use lib.Seq.{length-take-le}
-use Rattle.plan.proofs.Claims.{line}
+use Rattle.path_rules.proofs.Plan.Claims.{line}
 use borrow.Author.Needs.{needs}
 use Rattle.qspath.proofs.answer.Statement.{statement}
 use Rattle.qspath.proofs.answer.Tie as tie

@@ -2,8 +2,8 @@
 use Prim.Native.Nat.{_≤_, _<_}
 use native.Mathlib.Omega.{arith}
 use borrow.Author.Tests.{lt-leb, le-leb}
-use Rattle.rates.specs.Steps.{topCode, rateOf}
-use Rattle.rates.proofs.StepLaws.{rate-from, power-small}
+use Rattle.wire_rules.specs.Rates.Steps.{topCode, rateOf}
+use Rattle.wire_rules.proofs.Rates.StepLaws.{rate-from, power-small}
 use borrow.Author.Needs.{needs}
 use Rattle.rates.proofs.rate_of.Statement.{statement}
 use Rattle.rates.proofs.rate_of.Tie as tie

@@ -4,8 +4,8 @@ use native.Mathlib.Omega.{arith}
 use mathlib.Core.Path.{_≡_, refl, ap, _∙_}
 use borrow.Author.Tests.{le-leb}
 use Rattle.refusals.specs.Reply.{answer}
-use Rattle.rates.specs.Steps.{topCode, roundedDown, roundedUp, roundedUpReply}
-use Rattle.rates.proofs.StepLaws.{up-by-down}
+use Rattle.wire_rules.specs.Rates.Steps.{topCode, roundedDown, roundedUp, roundedUpReply}
+use Rattle.wire_rules.proofs.Rates.StepLaws.{up-by-down}
 use borrow.Author.Needs.{needs}
 use Rattle.rates.proofs.round_up.Statement.{statement}
 use Rattle.rates.proofs.round_up.Tie as tie

@@ -4,7 +4,7 @@ use mathlib.Core.Path.{_≡_}
 use borrow.Author.Needs.{needs}
 use Rattle.common.specs.Choice.{within}
 use Rattle.common.proofs.Choice.{held, failed}
-use Rattle.rates.specs.Window.{longestRtt, largestSegment, transportInRange}
+use Rattle.wire_rules.specs.Rates.Window.{longestRtt, largestSegment, transportInRange}
 use Rattle.rates.proofs.transport_in_range.Statement.{statement}
 use Rattle.rates.proofs.transport_in_range.Tie as tie
 

@@ -5,10 +5,10 @@ use mathlib.Core.Path.{_≡_}
 use native.Mathlib.Omega.{arith}
 use Rattle.common.specs.Choice.{within}
 use Rattle.common.proofs.Choice.{within-high, held, failed}
-use Rattle.rates.specs.Steps.{topCode}
-use Rattle.rates.specs.Window.{transportInRange, windowSegments}
-use Rattle.rates.proofs.StepLaws.{power-small}
-use Rattle.rates.proofs.WindowLaws.{Transport, transport-facts, sent-fits}
+use Rattle.wire_rules.specs.Rates.Steps.{topCode}
+use Rattle.wire_rules.specs.Rates.Window.{transportInRange, windowSegments}
+use Rattle.wire_rules.proofs.Rates.StepLaws.{power-small}
+use Rattle.wire_rules.proofs.Rates.WindowLaws.{Transport, transport-facts, sent-fits}
 use borrow.Author.Needs.{needs}
 use Rattle.rates.proofs.window_segments.Statement.{statement}
 use Rattle.rates.proofs.window_segments.Tie as tie

@@ -1,6 +1,6 @@
 -- `receiver::in_ranges` meets its contract: both tests are those of the definition. Assumes nothing.
 use Rattle.common.proofs.Choice.{tests}
-use Rattle.receiver.specs.Reports.{receiverInRange}
+use Rattle.gateway_rules.specs.Receiver.Reports.{receiverInRange}
 use Rattle.receiver.proofs.in_ranges.Statement.{statement}
 use Rattle.receiver.proofs.in_ranges.Tie as tie
 

@@ -4,9 +4,9 @@ use mathlib.Core.Path.{_≡_, sym, ap, _∙_}
 use lib.ListN.{length}
 use Rattle.common.proofs.Choice.{held, failed}
 use Rattle.inspect.specs.Replies.{sightTold}
-use Rattle.receiver.specs.Reports.{receiverInRange, responseAfter}
-use Rattle.receiver.specs.Replies.{reactionIn}
-use Rattle.receiver.proofs.ReportLaws.{received-seven, received-refused, received-seen}
+use Rattle.gateway_rules.specs.Receiver.Reports.{receiverInRange, responseAfter}
+use Rattle.gateway_rules.specs.Receiver.Reactions.{reactionIn}
+use Rattle.gateway_rules.proofs.Receiver.ReportLaws.{received-seven, received-refused, received-seen}
 use borrow.Author.Needs.{needs}
 use Rattle.receiver.proofs.receiver.Statement.{statement}
 use Rattle.receiver.proofs.receiver.Tie as tie

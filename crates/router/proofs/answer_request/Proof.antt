@@ -1,13 +1,13 @@
 -- `router::answer_request` meets its contract: the decision on what is asked for is written, or nothing. Assumes nothing.
 use mathlib.Core.Path.{sym, ap, _∙_}
 use lib.ListN.{length}
-use Rattle.walk.specs.declared.Place.the-variants.{At}
-use Rattle.ipv4.specs.Views.{putRequest}
-use Rattle.inspect.specs.declared.Asking.{Asking}
-use Rattle.router.specs.declared.Decision.{Decision}
-use Rattle.router.specs.Decisions.{writtenBy}
+use Rattle.wire_rules.specs.declared.Place.the-variants.{At}
+use Rattle.wire_rules.specs.Ipv4.Views.{putRequest}
+use Rattle.gateway_rules.specs.declared.Asking.{Asking}
+use Rattle.gateway_rules.specs.declared.Decision.{Decision}
+use Rattle.gateway_rules.specs.Router.Decisions.{writtenBy}
 use Rattle.router.specs.Parts.{Readable, decisionWritten}
-use Rattle.router.proofs.DecisionLaws.{in-range}
+use Rattle.gateway_rules.proofs.Router.DecisionLaws.{in-range}
 use borrow.Author.Needs.{needs}
 use Rattle.router.proofs.answer_request.Statement.{statement}
 use Rattle.router.proofs.answer_request.Tie as tie

@@ -1,6 +1,6 @@
 -- `router::in_ranges` meets its contract: both tests are those of the definition. Assumes nothing.
 use Rattle.common.proofs.Choice.{tests}
-use Rattle.router.specs.Routers.{routerInRange}
+use Rattle.gateway_rules.specs.Router.Routers.{routerInRange}
 use Rattle.router.proofs.in_ranges.Statement.{statement}
 use Rattle.router.proofs.in_ranges.Tie as tie
 

@@ -1,6 +1,6 @@
 -- `router::meet` meets its contract: what is seen of the packet, and the test of its IP TTL. Assumes nothing.
 use mathlib.Core.Path.{sym, ap, _∙_}
-use Rattle.inspect.specs.declared.Asking.{Asking}
+use Rattle.gateway_rules.specs.declared.Asking.{Asking}
 use Rattle.refusals.specs.Reply.{answer}
 use Rattle.inspect.specs.Replies.{sightTold}
 use Rattle.router.proofs.RouterLaws.{met-expired, met-refused, met-packet}

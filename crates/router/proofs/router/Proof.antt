@@ -4,10 +4,11 @@ use mathlib.Core.Path.{_≡_, sym, ap, _∙_}
 use lib.ListN.{length}
 use Rattle.common.proofs.Choice.{held, failed}
 use Rattle.refusals.specs.Reply.{answer, leaves, done}
-use Rattle.router.specs.Routers.{routerInRange}
+use Rattle.gateway_rules.specs.Router.Routers.{routerInRange}
 use Rattle.router.specs.Parts.{met}
 use Rattle.router.specs.Replies.{metTold}
-use Rattle.router.proofs.RouterLaws.{routed-seven, routed-refused, routed-met}
+use Rattle.router.proofs.RouterLaws.{routed-refused, routed-met}
+use Rattle.gateway_rules.proofs.Router.PassedLaws.{routed-seven}
 use borrow.Author.Needs.{needs}
 use Rattle.router.proofs.router.Statement.{statement}
 use Rattle.router.proofs.router.Tie as tie

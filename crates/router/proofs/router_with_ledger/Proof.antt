@@ -6,10 +6,10 @@ use mathlib.Core.Path.{_≡_, sym, ap, _∙_}
 use lib.ListN.{length}
 use Rattle.common.proofs.Choice.{held, failed, both-true}
 use Rattle.refusals.specs.Reply.{answer, leaves, done}
-use Rattle.ledger.specs.Calls.{lent, linkInRange, askReply}
+use Rattle.gateway_rules.specs.Ledgers.Calls.{lent, linkInRange, askReply}
 use Rattle.ledger.specs.Replies.{grantTold}
-use Rattle.inspect.specs.Sights.{requestOf}
-use Rattle.router.specs.Routers.{routerInRange, wishOf, passage}
+use Rattle.gateway_rules.specs.Inspect.Sights.{requestOf}
+use Rattle.gateway_rules.specs.Router.Routers.{routerInRange, wishOf, passage}
 use Rattle.router.specs.Parts.{met}
 use Rattle.router.specs.Replies.{metTold}
 use Rattle.router.proofs.RouterLaws.{not-granted, is-granted, granted-range, ledger-seven, ledger-refused, ledger-untouched, ledger-denied, ledger-granted}

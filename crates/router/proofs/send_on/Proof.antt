@@ -5,7 +5,7 @@ use mathlib.Core.Path.{ap, _∙_}
 use native.Mathlib.Omega.{arith}
 use lib.ListN.{length}
 use Rattle.refusals.specs.Reply.{leaves}
-use Rattle.ipv4.specs.Packets.{passedOn}
+use Rattle.wire_rules.specs.Ipv4.Packets.{passedOn}
 use Rattle.router.specs.Parts.{decisionWritten}
 use Rattle.router.proofs.RouterLaws.{met-readable, sent, written-long}
 use borrow.Author.Needs.{needs}

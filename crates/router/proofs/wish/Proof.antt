@@ -1,8 +1,8 @@
 -- `router::wish` meets its contract: the lesser of rate and ceiling, and 0 where nothing is asked for. Assumes nothing.
 use mathlib.Core.Path.{sym, ap, _∙_}
-use Rattle.inspect.specs.declared.Asking.{Asking}
-use Rattle.inspect.specs.Sights.{requestOf}
-use Rattle.router.specs.Routers.{wishOf}
+use Rattle.gateway_rules.specs.declared.Asking.{Asking}
+use Rattle.gateway_rules.specs.Inspect.Sights.{requestOf}
+use Rattle.gateway_rules.specs.Router.Routers.{wishOf}
 use borrow.Author.Needs.{needs}
 use Rattle.router.proofs.wish.Statement.{statement}
 use Rattle.router.proofs.wish.Tie as tie

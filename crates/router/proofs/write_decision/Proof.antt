@@ -1,9 +1,9 @@
 -- `router::write_decision` meets its contract: each decision writes its own request, or nothing. Assumes nothing.
 use mathlib.Core.Path.{sym, ap, _∙_}
-use Rattle.walk.specs.declared.Place.the-variants.{At}
-use Rattle.ipv4.specs.Views.{putRequest}
-use Rattle.router.specs.declared.Decision.{Decision}
-use Rattle.router.specs.Decisions.{writtenBy}
+use Rattle.wire_rules.specs.declared.Place.the-variants.{At}
+use Rattle.wire_rules.specs.Ipv4.Views.{putRequest}
+use Rattle.gateway_rules.specs.declared.Decision.{Decision}
+use Rattle.gateway_rules.specs.Router.Decisions.{writtenBy}
 use borrow.Author.Needs.{needs}
 use Rattle.router.proofs.write_decision.Statement.{statement}
 use Rattle.router.proofs.write_decision.Tie as tie

@@ -1,6 +1,6 @@
 -- `rows::hop_in_range` meets its contract. Assumes nothing.
 use Rattle.common.proofs.Choice.{tests}
-use Rattle.rows.specs.Rows.{hopInRange}
+use Rattle.path_rules.specs.Rows.Rows.{hopInRange}
 use Rattle.rows.proofs.hop_in_range.Statement.{statement}
 use Rattle.rows.proofs.hop_in_range.Tie as tie
 

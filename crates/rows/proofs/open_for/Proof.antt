@@ -1,8 +1,8 @@
 -- `rows::open_for` meets its contract. Assumes nothing.
 use mathlib.Core.Path.{ap, _∙_}
-use Rattle.connection.specs.declared.State.the-variants.{Asked}
-use Rattle.connection.specs.declared.Connection.{Connection}
-use Rattle.connection.specs.Records.{withState}
+use Rattle.sender_rules.specs.declared.State.the-variants.{Asked}
+use Rattle.sender_rules.specs.declared.Connection.{Connection}
+use Rattle.sender_rules.specs.Connections.Records.{withState}
 use borrow.Author.Needs.{needs}
 use Rattle.rows.proofs.open_for.Statement.{statement}
 use Rattle.rows.proofs.open_for.Tie as tie

@@ -41,21 +41,21 @@ use denote.Triple.Table.{entered, cited}
 use denote.Triple.Walked.{Stays, stay-none-slice, stay-none, gave-slice, walkOf, goes-none-slice, goes-none, goes-gave-slice, Walks, ends-at, walked, walk-meets}
 use denote.Exit.{yes}
 use Rattle.refusals.specs.Reply.{Reply, Outcome}
-use Rattle.connection.specs.declared.Connection.{Connection}
-use Rattle.connection.proofs.Connection as C
-use Rattle.connection.proofs.Connection.Laws as C′
-use Rattle.hops.specs.Rows.{mostRouters}
+use Rattle.sender_rules.specs.declared.Connection.{Connection}
+use Rattle.sender_rules.proofs.Connection as C
+use Rattle.sender_rules.proofs.Connection.Laws as C′
+use Rattle.path_rules.specs.Hops.Rows.{mostRouters}
 use Rattle.hops.specs.Replies.{verdictAnswerTold}
-use Rattle.hops.specs.Verdicts.{Verdict}
+use Rattle.path_rules.specs.Hops.Verdicts.{Verdict}
 use Rattle.path.specs.declared.Ran.{Ran}
-use Rattle.path.specs.Runs.{Journey, journey, callOver}
+use Rattle.path_rules.specs.Path.Runs.{Journey, journey, callOver}
 use Rattle.path.proofs.Ran as R
 use Rattle.path.proofs.Ran.Laws as R′
-use Rattle.plan.specs.Lines.{roundTrip, segment, headers, ownTransport}
-use Rattle.rows.specs.declared.Hop.{Hop}
-use Rattle.rows.specs.Rows.{hopsRow}
-use Rattle.rows.specs.Results.{openFor, verdictResult}
-use Rattle.rows.proofs.Hop as T
+use Rattle.path_rules.specs.Plan.Lines.{roundTrip, segment, headers, ownTransport}
+use Rattle.path_rules.specs.declared.Hop.{Hop}
+use Rattle.path_rules.specs.Rows.Rows.{hopsRow}
+use Rattle.path_rules.specs.Rows.Results.{openFor, verdictResult}
+use Rattle.path_rules.proofs.Hop as T
 use Rattle.rows.proofs.open_for as open-for
 use Rattle.rows.proofs.open_for.Symbol as open-for-def
 use Rattle.rows.proofs.open_for.Symbol.{name as #rows·open-for}

@@ -40,17 +40,17 @@ use denote.Triple.Table.{entered, cited}
 use denote.Triple.Walked.{Stays, stay-none-slice, gave-slice, walkOf, goes-none-slice, goes-gave-slice, Walks, ends-at, walked, walk-meets}
 use denote.Exit.{yes}
 use Rattle.refusals.specs.Reply.{Reply, leaves, done as told}
-use Rattle.hops.specs.declared.Summary.{Summary}
+use Rattle.path_rules.specs.declared.Summary.{Summary}
 use Rattle.hops.specs.declared.SummaryAnswer.{SummaryAnswer}
-use Rattle.hops.specs.Rows.{mostRouters}
-use Rattle.hops.specs.Summaries.{summaryOver}
+use Rattle.path_rules.specs.Hops.Rows.{mostRouters}
+use Rattle.path_rules.specs.Hops.Summaries.{summaryOver}
 use Rattle.hops.specs.Replies.{summaryTold}
 use Rattle.hops.proofs.SummaryAnswer as J
 use Rattle.hops.proofs.SummaryAnswer.Laws as J′
-use Rattle.rows.specs.declared.Hop.{Hop}
-use Rattle.rows.specs.Rows.{hopsRow}
-use Rattle.rows.specs.Results.{summaryLent, summaryResult}
-use Rattle.rows.proofs.Hop as T
+use Rattle.path_rules.specs.declared.Hop.{Hop}
+use Rattle.path_rules.specs.Rows.Rows.{hopsRow}
+use Rattle.path_rules.specs.Rows.Results.{summaryLent, summaryResult}
+use Rattle.path_rules.proofs.Hop as T
 use Rattle.rows.proofs.summarize_hops as summarize
 use Rattle.rows.proofs.summarize_hops.Symbol as summarize-def
 use Rattle.rows.proofs.summarize_hops.Symbol.{name as #rows·summarize-hops}

@@ -41,23 +41,23 @@ use denote.Triple.Table.{entered, cited}
 use denote.Triple.Walked.{Stays, stay-none-slice, stay-none, gave-slice, walkOf, goes-none-slice, goes-none, goes-gave-slice, Walks, ends-at, walked, walk-meets}
 use denote.Exit.{yes}
 use Rattle.refusals.specs.Reply.{Reply}
-use Rattle.connection.specs.declared.Connection.{Connection}
-use Rattle.connection.proofs.Connection as C
-use Rattle.connection.proofs.Connection.Laws as C′
-use Rattle.sender.specs.Calls.{Transport, transport}
-use Rattle.hops.specs.declared.Router.{Router}
-use Rattle.hops.specs.Rows.{mostRouters}
+use Rattle.sender_rules.specs.declared.Connection.{Connection}
+use Rattle.sender_rules.proofs.Connection as C
+use Rattle.sender_rules.proofs.Connection.Laws as C′
+use Rattle.sender_rules.specs.Sender.Calls.{Transport, transport}
+use Rattle.path_rules.specs.declared.Router.{Router}
+use Rattle.path_rules.specs.Hops.Rows.{mostRouters}
 use Rattle.hops.specs.Replies.{verdictAnswerTold}
 use Rattle.path.specs.declared.Ran.{Ran}
-use Rattle.path.specs.Runs.{journey, callOver}
+use Rattle.path_rules.specs.Path.Runs.{journey, callOver}
 use Rattle.path.proofs.Ran as R
 use Rattle.path.proofs.Ran.Laws as R′
-use Rattle.rows.specs.declared.Hop.{Hop}
+use Rattle.path_rules.specs.declared.Hop.{Hop}
 use Rattle.rows.specs.declared.Spelled.{Spelled}
-use Rattle.rows.specs.Rows.{hopsRow}
+use Rattle.path_rules.specs.Rows.Rows.{hopsRow}
 use Rattle.rows.specs.Parts.{nothingYet, gathered, rowIn}
 use Rattle.rows.proofs.GatherLaws.{reads-row}
-use Rattle.rows.proofs.Hop as T
+use Rattle.path_rules.proofs.Hop as T
 use Rattle.rows.proofs.Spelled as S
 use Rattle.rows.proofs.Spelled.Laws as S′
 use Rattle.rows.proofs.nothing_yet as nothing-yet

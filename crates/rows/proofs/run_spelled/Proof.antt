@@ -6,9 +6,9 @@ use lib.ListN.{length}
 use lib.Seq.{length-take-le}
 use Rattle.common.proofs.Choice.{held, failed}
 use Rattle.refusals.specs.Reply.{Reply}
-use Rattle.hops.specs.declared.Router.{Router}
-use Rattle.sender.specs.Calls.{transport}
-use Rattle.path.specs.Runs.{callOver}
+use Rattle.path_rules.specs.declared.Router.{Router}
+use Rattle.sender_rules.specs.Sender.Calls.{transport}
+use Rattle.path_rules.specs.Path.Runs.{callOver}
 use Rattle.rows.proofs.GatherLaws.{row-broken, row-long, row-whole}
 use borrow.Author.Needs.{needs}
 use Rattle.rows.proofs.run_spelled.Statement.{statement}

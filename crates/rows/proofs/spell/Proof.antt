@@ -44,12 +44,12 @@ use denote.Triple.Spec.{Meets, tripleOf}
 use denote.Triple.Table.{entered, cited}
 use denote.Triple.Walked.{says, Stays, stay-none-slice, stay-none, walkOf, goes-none-slice, goes-none, Walks, ends-at, walked, walk-meets}
 use denote.Exit.{yes}
-use Rattle.rows.specs.declared.Hop.{Hop}
+use Rattle.path_rules.specs.declared.Hop.{Hop}
 use Rattle.rows.specs.declared.Spelled.{Spelled}
 use Rattle.rows.specs.Parts.{withHop, gathered}
 use Rattle.rows.proofs.GatherLaws.{noHop, turned, over}
-use Rattle.rows.proofs.Hop as T
-use Rattle.rows.proofs.Hop.Laws as T′
+use Rattle.path_rules.proofs.Hop as T
+use Rattle.path_rules.proofs.Hop.Laws as T′
 use Rattle.rows.proofs.Spelled as S
 use Rattle.rows.proofs.Spelled.Laws as S′
 use Rattle.rows.proofs.with_hop as with-hop

@@ -36,19 +36,19 @@ use denote.Triple.Table.{entered, cited}
 use denote.Triple.Walked.{says, Stays, stay-none-slice, walkOf, goes-none-slice, Walks, ends-at, walked, walk-meets}
 use denote.Exit.{yes}
 use Rattle.refusals.specs.Reply.{Reply}
-use Rattle.hops.specs.declared.Router.{Router}
+use Rattle.path_rules.specs.declared.Router.{Router}
 use Rattle.hops.specs.declared.SummaryAnswer.{SummaryAnswer}
-use Rattle.hops.specs.Rows.{mostRouters}
-use Rattle.hops.specs.Summaries.{summaryOver}
+use Rattle.path_rules.specs.Hops.Rows.{mostRouters}
+use Rattle.path_rules.specs.Hops.Summaries.{summaryOver}
 use Rattle.hops.specs.Replies.{summaryTold}
 use Rattle.hops.proofs.SummaryAnswer as J
 use Rattle.hops.proofs.SummaryAnswer.Laws as J′
-use Rattle.rows.specs.declared.Hop.{Hop}
+use Rattle.path_rules.specs.declared.Hop.{Hop}
 use Rattle.rows.specs.declared.Spelled.{Spelled}
-use Rattle.rows.specs.Rows.{hopsRow}
+use Rattle.path_rules.specs.Rows.Rows.{hopsRow}
 use Rattle.rows.specs.Parts.{nothingYet, gathered, rowIn}
 use Rattle.rows.proofs.GatherLaws.{reads-row}
-use Rattle.rows.proofs.Hop as T
+use Rattle.path_rules.proofs.Hop as T
 use Rattle.rows.proofs.Spelled as S
 use Rattle.rows.proofs.Spelled.Laws as S′
 use Rattle.rows.proofs.nothing_yet as nothing-yet

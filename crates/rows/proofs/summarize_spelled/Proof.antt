@@ -6,8 +6,8 @@ use lib.ListN.{length}
 use lib.Seq.{length-take-le}
 use Rattle.common.proofs.Choice.{held, failed}
 use Rattle.refusals.specs.Reply.{Reply}
-use Rattle.hops.specs.declared.Router.{Router}
-use Rattle.hops.specs.Summaries.{summaryOver}
+use Rattle.path_rules.specs.declared.Router.{Router}
+use Rattle.path_rules.specs.Hops.Summaries.{summaryOver}
 use Rattle.rows.proofs.GatherLaws.{row-broken, row-long, row-whole}
 use borrow.Author.Needs.{needs}
 use Rattle.rows.proofs.summarize_spelled.Statement.{statement}

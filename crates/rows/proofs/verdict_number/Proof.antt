@@ -5,7 +5,7 @@ use native.Mathlib.Omega.{arith}
 use Rattle.refusals.proofs.Claims.{table}
 use Rattle.hops.specs.declared.VerdictAnswer.{VerdictAnswer}
 use Rattle.hops.specs.Replies.{verdictAnswerTold}
-use Rattle.rows.specs.Results.{verdictResult}
+use Rattle.path_rules.specs.Rows.Results.{verdictResult}
 use Rattle.rows.proofs.ResultLaws.{result-by}
 use borrow.Author.Needs.{needs}
 use Rattle.rows.proofs.verdict_number.Statement.{statement}

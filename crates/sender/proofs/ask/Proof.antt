@@ -5,10 +5,10 @@ use lib.ListN.{length}
 use Rattle.common.proofs.Choice.{held, failed}
 use Rattle.refusals.specs.Reply.{answer}
 use Rattle.refusals.proofs.ReplyLaws.{replied}
-use Rattle.connection.specs.declared.Connection.{Connection}
-use Rattle.connection.specs.Records.{inRange, isBefore}
-use Rattle.sender.specs.Calls.{wish, sending, askInRange, isBusy}
-use Rattle.sender.proofs.CallLaws.{ask-out, ask-numbers-out, ask-early, ask-busy, ask-soon, ask-sent}
+use Rattle.sender_rules.specs.declared.Connection.{Connection}
+use Rattle.sender_rules.specs.Connections.Records.{inRange, isBefore}
+use Rattle.sender_rules.specs.Sender.Calls.{wish, sending, askInRange, isBusy}
+use Rattle.sender_rules.proofs.Sender.CallLaws.{ask-out, ask-numbers-out, ask-early, ask-busy, ask-soon, ask-sent}
 use borrow.Author.Needs.{needs}
 use Rattle.sender.proofs.ask.Statement.{statement}
 use Rattle.sender.proofs.ask.Tie as tie

@@ -1,10 +1,10 @@
 -- `sender::ask_opened` meets its contract: the state is changed, then the time of the last request. Assumes nothing.
 use Prim.Native.Nat.{ℕ}
 use mathlib.Core.Path.{ap, _∙_}
-use Rattle.connection.specs.declared.Connection.{Connection}
-use Rattle.connection.specs.declared.Moment.the-variants.{At}
-use Rattle.connection.specs.declared.State.the-variants.{Asked}
-use Rattle.connection.specs.Records.{withState, withLastRequest}
+use Rattle.sender_rules.specs.declared.Connection.{Connection}
+use Rattle.sender_rules.specs.declared.Moment.the-variants.{At}
+use Rattle.sender_rules.specs.declared.State.the-variants.{Asked}
+use Rattle.sender_rules.specs.Connections.Records.{withState, withLastRequest}
 use borrow.Author.Needs.{needs}
 use Rattle.sender.proofs.ask_opened.Statement.{statement}
 use Rattle.sender.proofs.ask_opened.Tie as tie

@@ -1,6 +1,6 @@
 -- `sender::back` meets its contract: the state is changed, then the window. Assumes nothing.
 use mathlib.Core.Path.{ap₂}
-use Rattle.connection.specs.Records.{withWindow}
+use Rattle.sender_rules.specs.Connections.Records.{withWindow}
 use borrow.Author.Needs.{needs}
 use Rattle.sender.proofs.back.Statement.{statement}
 use Rattle.sender.proofs.back.Tie as tie

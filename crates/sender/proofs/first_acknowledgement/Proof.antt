@@ -4,9 +4,9 @@ use Prim.Native.Nat.{ℕ, min}
 use Rattle.common.proofs.Choice.{held, failed}
 use Rattle.refusals.specs.Reply.{answer}
 use Rattle.refusals.proofs.ReplyLaws.{replied}
-use Rattle.connection.specs.declared.State.the-variants.{Idle}
-use Rattle.connection.specs.Records.{withState, withWindow}
-use Rattle.sender.proofs.CallLaws.{ack-out, ack-flight-out, ack-in}
+use Rattle.sender_rules.specs.declared.State.the-variants.{Idle}
+use Rattle.sender_rules.specs.Connections.Records.{withState, withWindow}
+use Rattle.sender_rules.proofs.Sender.CallLaws.{ack-out, ack-flight-out, ack-in}
 use borrow.Author.Needs.{needs}
 use Rattle.sender.proofs.first_acknowledgement.Statement.{statement}
 use Rattle.sender.proofs.first_acknowledgement.Tie as tie

@@ -3,7 +3,7 @@ use mathlib.Core.Path.{ap, _∙_}
 use Rattle.common.proofs.Choice.{held, failed}
 use Rattle.refusals.specs.Reply.{answer}
 use Rattle.refusals.proofs.ReplyLaws.{replied}
-use Rattle.sender.proofs.CallLaws.{give-up-out, give-up-in}
+use Rattle.sender_rules.proofs.Sender.CallLaws.{give-up-out, give-up-in}
 use borrow.Author.Needs.{needs}
 use Rattle.sender.proofs.give_up.Statement.{statement}
 use Rattle.sender.proofs.give_up.Tie as tie

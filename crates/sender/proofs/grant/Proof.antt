@@ -1,11 +1,11 @@
 -- `sender::grant` meets its contract: the window of a rate in range is never refused, and the record follows from the comparison with the window. Assumes nothing.
 use mathlib.Core.Path.{_≡_, sym, ap, _∙_}
 use Rattle.rates.specs.Replies.{windowTold}
-use Rattle.rates.specs.Window.{windowBytes}
-use Rattle.connection.specs.declared.Connection.{Connection}
-use Rattle.connection.specs.Records.{withWindow}
-use Rattle.sender.specs.Calls.{granted}
-use Rattle.sender.proofs.CallLaws.{window-told, window-refused, not-above, above}
+use Rattle.wire_rules.specs.Rates.Window.{windowBytes}
+use Rattle.sender_rules.specs.declared.Connection.{Connection}
+use Rattle.sender_rules.specs.Connections.Records.{withWindow}
+use Rattle.sender_rules.specs.Sender.Calls.{granted}
+use Rattle.sender_rules.proofs.Sender.CallLaws.{window-told, window-refused, not-above, above}
 use borrow.Author.Needs.{needs}
 use Rattle.sender.proofs.grant.Statement.{statement}
 use Rattle.sender.proofs.grant.Tie as tie

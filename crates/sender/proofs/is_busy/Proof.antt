@@ -1,6 +1,6 @@
 -- `sender::is_busy` meets its contract: each state by itself. Assumes nothing.
 use mathlib.Core.Path.{refl}
-use Rattle.sender.specs.Calls.{isBusy}
+use Rattle.sender_rules.specs.Sender.Calls.{isBusy}
 use borrow.Author.Needs.{needs}
 use Rattle.sender.proofs.is_busy.Statement.{statement}
 use Rattle.sender.proofs.is_busy.Tie as tie

@@ -4,11 +4,12 @@ use mathlib.Core.Path.{_≡_, refl, sym, ap, ap₂, _∙_}
 use native.Mathlib.Omega.{arith}
 use lib.ListN.{length, drop, length-drop}
 use Rattle.common.proofs.Lists.{take-rest}
-use Rattle.walk.specs.declared.Place.{Place}
-use Rattle.walk.specs.Walks.{look, walkOn, walk}
+use Rattle.wire_rules.specs.declared.Place.{Place}
+use Rattle.wire_rules.specs.Walk.Walks.{look, walkOn, walk}
 use Rattle.walk.specs.Parts.{placeOf}
 use Rattle.walk.specs.Replies.{stepTold}
-use Rattle.walk.proofs.WalkLaws.{place-kept, at-last, at-end, at-fault, at-past}
+use Rattle.wire_rules.proofs.Walk.WalkLaws.{at-last, at-end, at-fault, at-past}
+use Rattle.walk.proofs.PlaceLaws.{place-kept}
 use borrow.Author.Needs.{needs}
 use Rattle.walk.proofs.find.Statement.{statement}
 use Rattle.walk.proofs.find.Tie as tie

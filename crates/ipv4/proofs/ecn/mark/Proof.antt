@@ -3,12 +3,12 @@ use mathlib.Core.Path.{_≡_, sym, ap, _∙_}
 use native.Mathlib.Omega.{arith}
 use lib.ListN.{length}
 use Rattle.refusals.specs.Reply.{answer}
-use Rattle.ipv4.specs.Marks.{withCe}
+use Rattle.wire_rules.specs.Ipv4.Marks.{withCe}
 use Rattle.ipv4.specs.Replies.{checkedTold}
-use Rattle.ipv4.specs.Checks.{headerChecked}
-use Rattle.ipv4.proofs.ChecksumLaws.{stored-long}
-use Rattle.ipv4.proofs.HeaderLaws.{Good, good, sealable}
-use Rattle.ipv4.proofs.PacketLaws.{mark-refused, mark-drop, mark-marked}
+use Rattle.wire_rules.specs.Ipv4.Checks.{headerChecked}
+use Rattle.wire_rules.proofs.Ipv4.ChecksumLaws.{stored-long}
+use Rattle.wire_rules.proofs.Ipv4.HeaderLaws.{Good, good, sealable}
+use Rattle.wire_rules.proofs.Ipv4.PacketLaws.{mark-refused, mark-drop, mark-marked}
 use borrow.Author.Needs.{needs}
 use Rattle.ipv4.proofs.ecn.mark.Statement.{statement}
 use Rattle.ipv4.proofs.ecn.mark.Tie as tie

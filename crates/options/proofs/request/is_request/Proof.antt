@@ -1,6 +1,6 @@
 -- `options::request::is_request` meets its contract: each return says how the tests fell. Assumes nothing.
 use Rattle.common.proofs.Choice.{tests}
-use Rattle.options.specs.Requests.{isRequest}
+use Rattle.wire_rules.specs.Options.Requests.{isRequest}
 use borrow.Author.Needs.{needs}
 use Rattle.options.proofs.request.is_request.Statement.{statement}
 use Rattle.options.proofs.request.is_request.Tie as tie

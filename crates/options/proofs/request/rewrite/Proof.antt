@@ -4,9 +4,9 @@ use mathlib.Core.Path.{_≡_}
 use mathlib.Core.Bool.{true}
 use lib.ListN.{length}
 use Rattle.common.proofs.Choice.{held, failed}
-use Rattle.options.specs.Wire.{fieldsFit}
-use Rattle.options.specs.Requests.{isRequest}
-use Rattle.options.proofs.WireLaws.{Fit, fit-facts}
+use Rattle.wire_rules.specs.Options.Wire.{fieldsFit}
+use Rattle.wire_rules.specs.Options.Requests.{isRequest}
+use Rattle.wire_rules.proofs.Options.WireLaws.{Fit, fit-facts}
 use borrow.Author.Needs.{needs}
 use Rattle.options.proofs.request.rewrite.Statement.{statement}
 use Rattle.options.proofs.request.rewrite.Tie as tie

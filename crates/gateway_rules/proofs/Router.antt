@@ -1,0 +1,9 @@
+pub mod DecisionLaws
+pub mod PassedLaws
+pub mod HopLaws
+pub mod RoutingLaws
+pub mod LedgerLaws
+pub mod OnlyLaws
+pub mod OneRouter
+pub mod TrafficLaws
+pub mod Claims

@@ -1,0 +1,5 @@
+pub mod Rows
+pub mod Calls
+pub mod Held
+pub mod History
+pub mod Claims

@@ -1,0 +1,4 @@
+pub mod Decisions
+pub mod Routers
+pub mod Traffic
+pub mod Claims

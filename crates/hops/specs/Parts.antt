@@ -1,9 +1,0 @@
--- What the functions do that are not public, part by part. No claim speaks of these definitions. Assumes nothing.
-use mathlib.Core.List.{[], _∷_}
-use Rattle.hops.specs.declared.Router.{Router}
-use Rattle.hops.specs.declared.Summary.{Summary}
-use Rattle.hops.specs.Summaries.{summaryOf}
-
--- the summary of one router
-abbrev pub one : Router → Summary
-one router = summaryOf (router ∷ [])

@@ -1,0 +1,9 @@
+pub mod DecimalLaws
+pub mod InputLaws
+pub mod FormatLaws
+pub mod EnoughLaws
+pub mod SpellingLaws
+pub mod ReadLaws
+pub mod RunPathLaws
+pub mod LineLaws
+pub mod Claims

@@ -1,0 +1,4 @@
+pub mod RangeLaws
+pub mod RowClaims
+pub mod Claims
+pub mod ResultClaims

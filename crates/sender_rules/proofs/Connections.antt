@@ -1,0 +1,3 @@
+pub mod RecordLaws
+pub mod Claims
+pub mod PartLaws

@@ -1,0 +1,4 @@
+pub mod Echoes
+pub mod Phases
+pub mod Calls
+pub mod Claims
