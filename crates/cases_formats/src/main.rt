@@ -1,6 +1,5 @@
 // Runs the lowest layers on the documents' figures and on both sides of every boundary, and prints
 // what they answer, a line for each call: its name, its arguments, and its answer or refusal.
-use options::Written;
 use options::nonce;
 use options::nonce::Agreement;
 use options::nonce::Nonce;
@@ -12,6 +11,7 @@ use printing::say;
 use rates::Code;
 use rates::Rate;
 use rates::Window;
+use refusals::Answer;
 use refusals::Refusal;
 
 // The end of a line with a number for the answer.
@@ -96,14 +96,14 @@ fn window(code: u32, rtt: u64, mss: u64, headers: u64) {
 }
 
 // What a write answered, and the buffer after it.
-fn written(w: Written, option: &[u8]) {
+fn written(w: Answer, option: &[u8]) {
     match w {
-        Written::Done => {
+        Answer::Done => {
             say(b":");
             bytes(option);
             say(b"\n");
         }
-        Written::Refused(why) => {
+        Answer::Refused(why) => {
             refused(why);
             say(b"left:");
             bytes(option);

@@ -4,12 +4,12 @@
 // have a ledger's tick, its allowance and its slots.
 use gateway_rules::Ledger;
 use ledger::Grant;
-use ledger::Move;
 use ledger::SetUp;
 use printing::number;
 use printing::numbers;
 use printing::refused;
 use printing::say;
+use refusals::Answer;
 
 // The greatest allowance, 2^40.
 const MOST: u64 = 1_099_511_627_776;
@@ -83,11 +83,11 @@ fn move_on(row: &mut [u64], ledger: Ledger, tick: u64) -> Ledger {
     let left = moved.ledger;
     let answer = moved.answer;
     match answer {
-        Move::Done => {
+        Answer::Done => {
             say(b" moved");
             afterwards(row, left.tick);
         }
-        Move::Refused(why) => refused(why),
+        Answer::Refused(why) => refused(why),
     }
     left
 }

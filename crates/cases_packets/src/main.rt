@@ -2,7 +2,6 @@
 // and ECN marking, and prints what they answer. The first line for a packet has its name and its bytes; then comes a line for
 // each call, with the name, the call, and the answer, the bytes afterwards or the refusal.
 use ipv4::Checked;
-use ipv4::Forwarded;
 use ipv4::IpTtl;
 use ipv4::ecn;
 use ipv4::ecn::Marking;
@@ -11,6 +10,7 @@ use printing::number;
 use printing::refused;
 use printing::say;
 use printing::start;
+use refusals::Answer;
 use walk::Finding;
 use wire_rules::Place;
 
@@ -92,10 +92,10 @@ fn ttl(name: &[u8], packet: &[u8]) {
 }
 
 // What passing on answered, and the bytes after it.
-fn passed(name: &[u8], reply: Forwarded, packet: &[u8]) {
+fn passed(name: &[u8], reply: Answer, packet: &[u8]) {
     match reply {
-        Forwarded::Done => bytes(packet),
-        Forwarded::Refused(why) => {
+        Answer::Done => bytes(packet),
+        Answer::Refused(why) => {
             refused(why);
             unchanged(name, packet);
         }

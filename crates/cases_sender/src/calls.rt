@@ -2,14 +2,11 @@
 // the record that was handed back. Each hands the record on as the call left it.
 use congestion::EchoAnswer;
 use congestion::PhaseAnswer;
-use congestion::SampleAnswer;
-use connection::FreshAnswer;
 use printing::bytes;
 use printing::number;
 use printing::say;
+use refusals::Answer;
 use refusals::Refusal;
-use sender::AskAnswer;
-use sender::EndAnswer;
 use sender::ResponseAnswer;
 use sender_rules::Connection;
 use sender_rules::Mark;
@@ -148,11 +145,11 @@ pub fn fresh(window: u64, ssthresh: u64) -> Connection {
     let answer = opened.answer;
     let c = opened.connection;
     match answer {
-        FreshAnswer::Ready => {
+        Answer::Done => {
             say(b": ready");
             show(c);
         }
-        FreshAnswer::Refused(why) => {
+        Answer::Refused(why) => {
             refused(why);
             say(b"\n");
         }
@@ -170,10 +167,10 @@ fn asking(code: u32, ttl: u8, qs_ttl: u8, nonce: u32, rtt: u64, time: u64) {
 }
 
 // The answer, and the buffer after it.
-fn sent(answer: AskAnswer, request: &[u8]) {
+fn sent(answer: Answer, request: &[u8]) {
     match answer {
-        AskAnswer::Written => say(b": written"),
-        AskAnswer::Refused(why) => refused(why),
+        Answer::Done => say(b": written"),
+        Answer::Refused(why) => refused(why),
     }
     say(b",");
     bytes(request);
@@ -249,10 +246,10 @@ pub fn respond(c: Connection, response: [u8; 8], rtt: u64, mss: u64, headers: u6
     respond_with(c, &response, rtt, mss, headers)
 }
 
-pub fn finished(answer: EndAnswer) {
+pub fn finished(answer: Answer) {
     match answer {
-        EndAnswer::Done => say(b": done"),
-        EndAnswer::Refused(why) => refused(why),
+        Answer::Done => say(b": done"),
+        Answer::Refused(why) => refused(why),
     }
 }
 
@@ -310,10 +307,10 @@ pub fn echo(c: Connection, acknowledgement: u32, highest: u32, mss: u64) -> Conn
     left
 }
 
-fn added(answer: SampleAnswer) {
+fn added(answer: Answer) {
     match answer {
-        SampleAnswer::Done => say(b": done"),
-        SampleAnswer::Refused(why) => refused(why),
+        Answer::Done => say(b": done"),
+        Answer::Refused(why) => refused(why),
     }
 }
 

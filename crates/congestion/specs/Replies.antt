@@ -6,8 +6,6 @@ use Rattle.refusals.specs.Numbers.{numberOf}
 use Rattle.refusals.specs.Reply.{Reply, answer, refuse}
 use Rattle.congestion.specs.declared.EchoAnswer.{EchoAnswer}
 use Rattle.congestion.specs.declared.EchoAnswer.the-variants as Echoes
-use Rattle.congestion.specs.declared.SampleAnswer.{SampleAnswer}
-use Rattle.congestion.specs.declared.SampleAnswer.the-variants as SampleAnswers
 use Rattle.congestion.specs.declared.PhaseAnswer.{PhaseAnswer}
 use Rattle.congestion.specs.declared.PhaseAnswer.the-variants as Phases
 use Rattle.congestion.specs.declared.PipeAck.{PipeAck}
@@ -18,10 +16,6 @@ abbrev pub echoTold : EchoAnswer → Reply Bool
 echoTold Echoes.Reacted = answer true
 echoTold Echoes.Ignored = answer false
 echoTold (Echoes.Refused why) = refuse (numberOf why)
-
-abbrev pub addedTold : SampleAnswer → Reply (Unit {0})
-addedTold SampleAnswers.Done = answer tt
-addedTold (SampleAnswers.Refused why) = refuse (numberOf why)
 
 -- whether the phase is validated
 abbrev pub phaseTold : PhaseAnswer → Reply Bool

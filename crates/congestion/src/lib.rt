@@ -4,12 +4,13 @@
 ghost use mathlib.Core.Path.{_≡_};
 ghost use Prim.Native.Nat.{_≤_};
 ghost use lib.ListN.{take};
+ghost use Rattle.refusals.specs.Replies.{answerTold};
 ghost use Rattle.wire_rules.specs.Rates.Window.{longestRtt};
 ghost use Rattle.sender_rules.specs.Connections.Records.{mostBytes, mostSamples};
 ghost use Rattle.sender_rules.specs.Congestion.Echoes.{isAhead, halved, reacted};
 ghost use Rattle.sender_rules.specs.Congestion.Phases.{sampleOf, isEarly, isRecent, orGreater, pipeAck, validated, isValidated, isOver, startedAt, adjusted, runOn, sampled, phaseInRange};
 ghost use Rattle.sender_rules.specs.Congestion.Calls.{congestionCalls};
-ghost use Rattle.congestion.specs.Replies.{echoTold, addedTold, phaseTold, pipeAckTold};
+ghost use Rattle.congestion.specs.Replies.{echoTold, phaseTold, pipeAckTold};
 use connection::MOST_BYTES;
 use connection::MOST_SAMPLES;
 use connection::greater;
@@ -20,6 +21,7 @@ use connection::with_mark;
 use connection::with_period;
 use rates::LARGEST_SEGMENT;
 use rates::LONGEST_RTT;
+use refusals::Answer;
 use refusals::Refusal;
 use refusals::in_range;
 use sender_rules::Connection;
@@ -56,14 +58,9 @@ pub struct Echoed {
     pub connection: Connection,
 }
 
-pub enum SampleAnswer {
-    Done,
-    Refused(Refusal),
-}
-
 // What adding a sample answers, and the record afterwards.
 pub struct Sampled {
-    pub answer: SampleAnswer,
+    pub answer: Answer,
     pub connection: Connection,
 }
 
@@ -184,29 +181,29 @@ fn add(connection: Connection, sample: Sample) -> Connection
 
 // Adds a sample: the bytes that were acknowledged in a round trip, and the time.
 pub fn sample(connection: Connection, time: u64, bytes: u64) -> Sampled
-    ensures answer { λ r. ⌜ addedTold (r .answer) ≡ congestionCalls .sample connection (sampleOf time bytes) .said ⌝ }
+    ensures answer { λ r. ⌜ answerTold (r .answer) ≡ congestionCalls .sample connection (sampleOf time bytes) .said ⌝ }
     ensures record { λ r. ⌜ r .connection ≡ congestionCalls .sample connection (sampleOf time bytes) .left ⌝ }
 {
     if !is_in_range(connection) {
         return Sampled {
-            answer: SampleAnswer::Refused(Refusal::OutOfRange),
+            answer: Answer::Refused(Refusal::OutOfRange),
             connection,
         };
     }
     if bytes > MOST_BYTES {
         return Sampled {
-            answer: SampleAnswer::Refused(Refusal::OutOfRange),
+            answer: Answer::Refused(Refusal::OutOfRange),
             connection,
         };
     }
     if is_early(connection, time) {
         return Sampled {
-            answer: SampleAnswer::Refused(Refusal::TimeBackwards),
+            answer: Answer::Refused(Refusal::TimeBackwards),
             connection,
         };
     }
     Sampled {
-        answer: SampleAnswer::Done,
+        answer: Answer::Done,
         connection: add(connection, Sample { time, bytes }),
     }
 }

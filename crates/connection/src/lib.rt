@@ -4,10 +4,11 @@
 ghost use mathlib.Core.Path.{_≡_};
 ghost use Prim.Native.Nat.{_≤_, min, max};
 ghost use lib.ListN.{take};
+ghost use Rattle.refusals.specs.Replies.{answerTold};
 ghost use Rattle.sender_rules.specs.Connections.Records.{mostSamples, isBefore, stateInRange, bytesInRange, inRange, freshWith, freshReply, withState, withLastRequest, withMark, withPeriod};
-ghost use Rattle.connection.specs.Replies.{freshTold};
 use options::NONCE_LIMIT;
 use rates::TOP_CODE;
+use refusals::Answer;
 use refusals::Refusal;
 use refusals::in_range;
 use sender_rules::Connection;
@@ -21,14 +22,9 @@ pub const MOST_BYTES: u64 = 1_099_511_627_776;
 
 pub const MOST_SAMPLES: usize = 5;
 
-pub enum FreshAnswer {
-    Ready,
-    Refused(Refusal),
-}
-
 // What making a record answers, and the record: after a refusal one that every call refuses.
 pub struct Opened {
-    pub answer: FreshAnswer,
+    pub answer: Answer,
     pub connection: Connection,
 }
 
@@ -118,7 +114,7 @@ pub fn is_in_range(connection: Connection) -> bool
 
 // A fresh record: idle, with no last request, mark, sample or period.
 pub fn fresh(window: u64, ssthresh: u64) -> Opened
-    ensures answer { λ r. ⌜ freshTold (r .answer) ≡ freshReply window ssthresh ⌝ }
+    ensures answer { λ r. ⌜ answerTold (r .answer) ≡ freshReply window ssthresh ⌝ }
     ensures record { λ r. ⌜ r .connection ≡ freshWith window ssthresh ⌝ }
 {
     let connection = Connection {
@@ -133,12 +129,12 @@ pub fn fresh(window: u64, ssthresh: u64) -> Opened
     };
     if !is_in_range(connection) {
         return Opened {
-            answer: FreshAnswer::Refused(Refusal::OutOfRange),
+            answer: Answer::Refused(Refusal::OutOfRange),
             connection,
         };
     }
     Opened {
-        answer: FreshAnswer::Ready,
+        answer: Answer::Done,
         connection,
     }
 }

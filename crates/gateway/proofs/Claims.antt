@@ -31,9 +31,8 @@ use Rattle.gateway_rules.specs.Router.Routers.{routerInRange, routed, silentlyR
 use Rattle.router.specs.Replies.{routedTold}
 use Rattle.receiver.specs.declared.Received.{Received}
 use Rattle.receiver.specs.declared.Received.the-variants as Receivings
-use Rattle.gateway_rules.specs.Receiver.Reports.{Report, unanswered, reported, receiverInRange, reportReply, received}
+use Rattle.gateway_rules.specs.Receiver.Reports.{Report, unanswered, reported, receiverInRange, reportReply, received, reactionIn}
 use Rattle.receiver.specs.Replies.{receivedTold}
-use Rattle.gateway_rules.specs.Receiver.Reactions.{reactionIn}
 use Rattle.gateway.specs.Results.{routerResult, receiverResult, markResult}
 use Rattle.gateway.specs.Claims.{Numbered, Lending, Apart, among, Possible}
 

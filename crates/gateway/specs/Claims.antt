@@ -14,9 +14,8 @@ use Rattle.router.specs.declared.Routed.{Routed}
 use Rattle.gateway_rules.specs.Router.Routers.{routed, silentlyRouted, Passage, ledgerRouter}
 use Rattle.router.specs.Replies.{routedTold}
 use Rattle.receiver.specs.declared.Received.{Received}
-use Rattle.gateway_rules.specs.Receiver.Reports.{unanswered, reported, received}
+use Rattle.gateway_rules.specs.Receiver.Reports.{unanswered, reported, received, reactionIn}
 use Rattle.receiver.specs.Replies.{receivedTold}
-use Rattle.gateway_rules.specs.Receiver.Reactions.{reactionIn}
 use Rattle.gateway.specs.Results.{routerResult, receiverResult, markResult, lentByC}
 
 -- the number of each answer

@@ -6,7 +6,7 @@ use Rattle.refusals.specs.Reply.{Reply, answer, refuse}
 use Rattle.wire_rules.specs.Ipv4.Marks.{Mark, marked, dropped}
 use Rattle.gateway_rules.specs.Ledgers.Calls.{lent}
 use Rattle.gateway_rules.specs.Router.Routers.{Passage, passage}
-use Rattle.gateway_rules.specs.Receiver.Reactions.{Reaction, silence, response}
+use Rattle.gateway_rules.specs.Receiver.Reports.{Reaction, silence, response}
 
 -- a packet forwarded
 abbrev pub routerResult : Reply (Unit {0}) → ℕ

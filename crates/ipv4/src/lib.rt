@@ -4,12 +4,14 @@ ghost use mathlib.Core.Path.{_≡_};
 ghost use Prim.Native.Nat.{_+_, _%_, _<_, _≤_};
 ghost use lib.ListN.{length};
 ghost use Rattle.refusals.specs.Reply.{leaves, done};
+ghost use Rattle.refusals.specs.Replies.{answerTold};
 ghost use Rattle.walk.specs.Replies.{findingTold};
 ghost use Rattle.wire_rules.specs.Ipv4.Headers.{wordAt, headerLength};
 ghost use Rattle.wire_rules.specs.Ipv4.Checksums.{allOnes, onesSum, withChecksum, sealed};
 ghost use Rattle.wire_rules.specs.Ipv4.Checks.{wellFormed, headerChecked};
 ghost use Rattle.wire_rules.specs.Ipv4.Packets.{ttlReply, located, sealedReply, passedOn, forwarded};
-ghost use Rattle.ipv4.specs.Replies.{checkedTold, ttlTold, forwardedTold};
+ghost use Rattle.ipv4.specs.Replies.{checkedTold, ttlTold};
+use refusals::Answer;
 use refusals::Refusal;
 use walk::Finding;
 use wire_rules::Place;
@@ -48,12 +50,6 @@ pub enum Checked {
 
 pub enum IpTtl {
     Is(u8),
-    Refused(Refusal),
-}
-
-// What passing a packet on answers, and writing its checksum.
-pub enum Forwarded {
-    Done,
     Refused(Refusal),
 }
 
@@ -176,41 +172,41 @@ pub fn ip_ttl(packet: &[u8]) -> IpTtl
 
 // Lowers the IP TTL by one and writes the checksum anew. The checksum as it came is not tested: this is
 // for a router that has rewritten the option, and so made it stale.
-pub fn pass_on(packet: &mut [u8]) -> Forwarded
-    ensures answer { λ r. ⌜ forwardedTold r ≡ done (passedOn (length (now (packet .entry))) (now (packet .entry))) ⌝ }
+pub fn pass_on(packet: &mut [u8]) -> Answer
+    ensures answer { λ r. ⌜ answerTold r ≡ done (passedOn (length (now (packet .entry))) (now (packet .entry))) ⌝ }
     ensures packet { λ _. ⌜ now (packet .exit) ≡ leaves (now (packet .entry)) (passedOn (length (now (packet .entry))) (now (packet .entry))) ⌝ }
 {
     if !well_formed(packet) {
-        return Forwarded::Refused(Refusal::Header);
+        return Answer::Refused(Refusal::Header);
     }
     let ttl = packet[TTL];
     if ttl <= 1 {
-        return Forwarded::Refused(Refusal::TtlExpired);
+        return Answer::Refused(Refusal::TtlExpired);
     }
     packet[TTL] = ttl - 1;
     seal(packet);
-    Forwarded::Done
+    Answer::Done
 }
 
 // Writes the checksum of a packet anew, for a sender that has made its header.
-pub fn write_checksum(packet: &mut [u8]) -> Forwarded
-    ensures answer { λ r. ⌜ forwardedTold r ≡ done (sealedReply (length (now (packet .entry))) (now (packet .entry))) ⌝ }
+pub fn write_checksum(packet: &mut [u8]) -> Answer
+    ensures answer { λ r. ⌜ answerTold r ≡ done (sealedReply (length (now (packet .entry))) (now (packet .entry))) ⌝ }
     ensures packet { λ _. ⌜ now (packet .exit) ≡ leaves (now (packet .entry)) (sealedReply (length (now (packet .entry))) (now (packet .entry))) ⌝ }
 {
     if !well_formed(packet) {
-        return Forwarded::Refused(Refusal::Header);
+        return Answer::Refused(Refusal::Header);
     }
     seal(packet);
-    Forwarded::Done
+    Answer::Done
 }
 
 // Passes on a packet that nobody has rewritten: its checksum is tested first.
-pub fn forward(packet: &mut [u8]) -> Forwarded
-    ensures answer { λ r. ⌜ forwardedTold r ≡ done (forwarded (length (now (packet .entry))) (now (packet .entry))) ⌝ }
+pub fn forward(packet: &mut [u8]) -> Answer
+    ensures answer { λ r. ⌜ answerTold r ≡ done (forwarded (length (now (packet .entry))) (now (packet .entry))) ⌝ }
     ensures packet { λ _. ⌜ now (packet .exit) ≡ leaves (now (packet .entry)) (forwarded (length (now (packet .entry))) (now (packet .entry))) ⌝ }
 {
     match check_header(packet) {
-        Checked::Refused(why) => Forwarded::Refused(why),
+        Checked::Refused(why) => Answer::Refused(why),
         Checked::HeaderLength(_) => pass_on(packet),
     }
 }

@@ -5,18 +5,12 @@ use Rattle.refusals.specs.Reply.{Reply, answer, refuse}
 use Rattle.gateway_rules.specs.declared.Ledger.{Ledger}
 use Rattle.ledger.specs.declared.SetUp.{SetUp}
 use Rattle.ledger.specs.declared.SetUp.the-variants as SetUps
-use Rattle.ledger.specs.declared.Move.{Move}
-use Rattle.ledger.specs.declared.Move.the-variants as Moves
 use Rattle.ledger.specs.declared.Grant.{Grant}
 use Rattle.ledger.specs.declared.Grant.the-variants as Grants
 
 abbrev pub setUpTold : SetUp → Reply Ledger
 setUpTold (SetUps.Ready ledger) = answer ledger
 setUpTold (SetUps.Refused why) = refuse (numberOf why)
-
-abbrev pub moveTold : Move → Reply (Unit {0})
-moveTold Moves.Done = answer tt
-moveTold (Moves.Refused why) = refuse (numberOf why)
 
 abbrev pub grantTold : Grant → Reply ℕ
 grantTold (Grants.Code code) = answer code

@@ -6,16 +6,18 @@
 ghost use mathlib.Core.Path.{_≡_};
 ghost use Prim.Native.Nat.{_+_, _≤_, _<_, min};
 ghost use lib.ListN.{length, replicate};
+ghost use Rattle.refusals.specs.Replies.{answerTold};
 ghost use Rattle.wire_rules.specs.Rates.Steps.{topCode, rateOf, greatestUpTo};
 ghost use Rattle.gateway_rules.specs.Ledgers.Rows.{total, movedOn, charged};
 ghost use Rattle.gateway_rules.specs.Ledgers.Calls.{mostAllowance, lent, linkInRange, grantOf};
-ghost use Rattle.ledger.specs.Replies.{setUpTold, moveTold, grantTold};
+ghost use Rattle.ledger.specs.Replies.{setUpTold, grantTold};
 ghost use Rattle.gateway_rules.specs.Ledgers.History.{ledgerCalls};
 use gateway_rules::Ledger;
 use rates::Rate;
 use rates::TOP_CODE;
 use rates::rate_of;
 use rates::round_down;
+use refusals::Answer;
 use refusals::Refusal;
 use refusals::in_range;
 
@@ -29,14 +31,9 @@ pub enum SetUp {
     Refused(Refusal),
 }
 
-pub enum Move {
-    Done,
-    Refused(Refusal),
-}
-
 // What moving on answers, and the record afterwards: the one that was given, after a refusal.
 pub struct Moved {
-    pub answer: Move,
+    pub answer: Answer,
     pub ledger: Ledger,
 }
 
@@ -158,31 +155,31 @@ pub fn set_up(row: &mut [u64], tick: u64, allowance: u64) -> SetUp
 // changes nothing, and a tick before the stored one is refused, as is a row whose total is above
 // the allowance.
 pub fn move_on(row: &mut [u64], ledger: Ledger, tick: u64) -> Moved
-    ensures answer { λ r. ⌜ moveTold (r .answer) ≡ ledgerCalls .move (lent (now (row .entry)) ledger) tick .said ⌝ }
+    ensures answer { λ r. ⌜ answerTold (r .answer) ≡ ledgerCalls .move (lent (now (row .entry)) ledger) tick .said ⌝ }
     ensures link { λ r. ⌜ lent (now (row .exit)) (r .ledger) ≡ ledgerCalls .move (lent (now (row .entry)) ledger) tick .left ⌝ }
 {
     let allowance = ledger.allowance;
     if !link_in_range(row.len(), allowance) {
         return Moved {
-            answer: Move::Refused(Refusal::OutOfRange),
+            answer: Answer::Refused(Refusal::OutOfRange),
             ledger,
         };
     }
     if total_up_to(row, allowance) > allowance {
         return Moved {
-            answer: Move::Refused(Refusal::OverAllowance),
+            answer: Answer::Refused(Refusal::OverAllowance),
             ledger,
         };
     }
     if tick < ledger.tick {
         return Moved {
-            answer: Move::Refused(Refusal::TimeBackwards),
+            answer: Answer::Refused(Refusal::TimeBackwards),
             ledger,
         };
     }
     clear_passed(row, ledger.tick, tick);
     Moved {
-        answer: Move::Done,
+        answer: Answer::Done,
         ledger: Ledger { tick, allowance },
     }
 }
@@ -216,11 +213,11 @@ pub fn ask(row: &mut [u64], ledger: Ledger, tick: u64, code: u32) -> Asked
     let at = moved.ledger;
     let answer = moved.answer;
     match answer {
-        Move::Refused(why) => Asked {
+        Answer::Refused(why) => Asked {
             answer: Grant::Refused(why),
             ledger: at,
         },
-        Move::Done => {
+        Answer::Done => {
             let granted = approve(row, at, code);
             Asked {
                 answer: Grant::Code(granted),

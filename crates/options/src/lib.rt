@@ -4,9 +4,10 @@ ghost use mathlib.Core.Path.{_≡_};
 ghost use Prim.Native.Nat.{_<_};
 ghost use lib.ListN.{length, getD};
 ghost use Rattle.wire_rules.specs.Options.Wire.{optionLength, nonceLimit, wordFrom, wordOf, optionBytes, optionWritten, fieldsFit, rateIn, ttlIn, nonceIn};
-ghost use Rattle.options.specs.Replies.{writtenTold};
 ghost use Rattle.refusals.specs.Reply.{leaves, done};
+ghost use Rattle.refusals.specs.Replies.{answerTold};
 use rates::TOP_CODE;
+use refusals::Answer;
 use refusals::Refusal;
 
 pub mod nonce;
@@ -28,12 +29,6 @@ const RATE: usize = 2;
 const TTL: usize = 3;
 
 const WORD: usize = 4;
-
-// What writing an option answers.
-pub enum Written {
-    Done,
-    Refused(Refusal),
-}
 
 // The byte at a place of an option, as a wider number.
 fn byte_at(option: &[u8], at: usize) -> u32
@@ -110,13 +105,13 @@ fn put(option: &mut [u8], kind: u8, rate: u8, ttl: u8, nonce: u32, reserved: u32
 }
 
 // Writes an option anew into a buffer of exactly eight bytes, with the reserved bits 0.
-fn write_option(option: &mut [u8], kind: u8, rate: u32, ttl: u8, nonce: u32) -> Written
-    ensures answer { λ r. ⌜ writtenTold r ≡ done (optionWritten kind (now (option .entry)) rate ttl nonce) ⌝ }
+fn write_option(option: &mut [u8], kind: u8, rate: u32, ttl: u8, nonce: u32) -> Answer
+    ensures answer { λ r. ⌜ answerTold r ≡ done (optionWritten kind (now (option .entry)) rate ttl nonce) ⌝ }
     ensures buffer { λ _. ⌜ now (option .exit) ≡ leaves (now (option .entry)) (optionWritten kind (now (option .entry)) rate ttl nonce) ⌝ }
 {
     if !fields_fit(option.len(), rate, nonce) {
-        return Written::Refused(Refusal::OutOfRange);
+        return Answer::Refused(Refusal::OutOfRange);
     }
     put(option, kind, rate as u8, ttl, nonce, 0);
-    Written::Done
+    Answer::Done
 }

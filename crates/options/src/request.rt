@@ -3,19 +3,20 @@
 ghost use mathlib.Core.Path.{_≡_};
 ghost use lib.ListN.{length};
 ghost use Rattle.wire_rules.specs.Options.Requests.{isRequest, requestRead, requestWritten, requestRewritten};
-ghost use Rattle.options.specs.Replies.{requestTold, writtenTold};
+ghost use Rattle.options.specs.Replies.{requestTold};
 ghost use Rattle.wire_rules.specs.Options.Wire.{optionLength};
 ghost use Rattle.refusals.specs.Reply.{leaves, done};
+ghost use Rattle.refusals.specs.Replies.{answerTold};
 use crate::KIND;
 use crate::LENGTH;
 use crate::OPTION_LENGTH;
 use crate::RATE;
-use crate::Written;
 use crate::fields_fit;
 use crate::fields_of;
 use crate::put;
 use crate::word_of;
 use crate::write_option;
+use refusals::Answer;
 use refusals::Refusal;
 use wire_rules::Request;
 
@@ -61,8 +62,8 @@ pub fn read(option: &[u8]) -> Reading
 }
 
 // Writes a request into a buffer of exactly eight bytes, with the reserved bits 0.
-pub fn write(option: &mut [u8], rate: u32, qs_ttl: u8, nonce: u32) -> Written
-    ensures answer { λ r. ⌜ writtenTold r ≡ done (requestWritten (now (option .entry)) rate «qs_ttl» nonce) ⌝ }
+pub fn write(option: &mut [u8], rate: u32, qs_ttl: u8, nonce: u32) -> Answer
+    ensures answer { λ r. ⌜ answerTold r ≡ done (requestWritten (now (option .entry)) rate «qs_ttl» nonce) ⌝ }
     ensures buffer { λ _. ⌜ now (option .exit) ≡ leaves (now (option .entry)) (requestWritten (now (option .entry)) rate «qs_ttl» nonce) ⌝ }
 {
     write_option(option, REQUEST, rate, qs_ttl, nonce)
@@ -70,17 +71,17 @@ pub fn write(option: &mut [u8], rate: u32, qs_ttl: u8, nonce: u32) -> Written
 
 // Writes another rate, QS TTL and nonce into a request in place. The reserved bits stay as they came.
 // What is no request is not rewritten: it is refused with 4.
-pub fn rewrite(option: &mut [u8], rate: u32, qs_ttl: u8, nonce: u32) -> Written
-    ensures answer { λ r. ⌜ writtenTold r ≡ done (requestRewritten (now (option .entry)) rate «qs_ttl» nonce) ⌝ }
+pub fn rewrite(option: &mut [u8], rate: u32, qs_ttl: u8, nonce: u32) -> Answer
+    ensures answer { λ r. ⌜ answerTold r ≡ done (requestRewritten (now (option .entry)) rate «qs_ttl» nonce) ⌝ }
     ensures buffer { λ _. ⌜ now (option .exit) ≡ leaves (now (option .entry)) (requestRewritten (now (option .entry)) rate «qs_ttl» nonce) ⌝ }
 {
     if !fields_fit(option.len(), rate, nonce) {
-        return Written::Refused(Refusal::OutOfRange);
+        return Answer::Refused(Refusal::OutOfRange);
     }
     if !is_request(option) {
-        return Written::Refused(Refusal::NoRequest);
+        return Answer::Refused(Refusal::NoRequest);
     }
     let reserved = word_of(option) % 4;
     put(option, REQUEST, rate as u8, qs_ttl, nonce, reserved);
-    Written::Done
+    Answer::Done
 }

@@ -3,15 +3,16 @@
 ghost use mathlib.Core.Path.{_≡_};
 ghost use lib.ListN.{length};
 ghost use Rattle.wire_rules.specs.Options.Responses.{ttlDiff, isResponse, responseRead, responseWritten};
-ghost use Rattle.options.specs.Replies.{responseTold, writtenTold};
+ghost use Rattle.options.specs.Replies.{responseTold};
 ghost use Rattle.wire_rules.specs.Options.Wire.{optionLength};
 ghost use Rattle.refusals.specs.Reply.{leaves, done};
+ghost use Rattle.refusals.specs.Replies.{answerTold};
 use crate::KIND;
 use crate::LENGTH;
 use crate::OPTION_LENGTH;
-use crate::Written;
 use crate::fields_of;
 use crate::write_option;
+use refusals::Answer;
 use refusals::Refusal;
 use std::num::wrapping_sub_u8;
 use wire_rules::Response;
@@ -62,8 +63,8 @@ pub fn read(option: &[u8]) -> Reading
 }
 
 // Writes a response into a buffer of exactly eight bytes, with the reserved bits 0.
-pub fn write(option: &mut [u8], rate: u32, ttl_diff: u8, nonce: u32) -> Written
-    ensures answer { λ r. ⌜ writtenTold r ≡ done (responseWritten (now (option .entry)) rate «ttl_diff» nonce) ⌝ }
+pub fn write(option: &mut [u8], rate: u32, ttl_diff: u8, nonce: u32) -> Answer
+    ensures answer { λ r. ⌜ answerTold r ≡ done (responseWritten (now (option .entry)) rate «ttl_diff» nonce) ⌝ }
     ensures buffer { λ _. ⌜ now (option .exit) ≡ leaves (now (option .entry)) (responseWritten (now (option .entry)) rate «ttl_diff» nonce) ⌝ }
 {
     write_option(option, RESPONSE, rate, ttl_diff, nonce)

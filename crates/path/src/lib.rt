@@ -4,13 +4,13 @@
 ghost use mathlib.Core.Path.{_≡_};
 ghost use lib.ListN.{length};
 ghost use Rattle.refusals.specs.Reply.{answer, leaves, done};
+ghost use Rattle.refusals.specs.Replies.{answerTold};
 ghost use Rattle.router.specs.Replies.{routedTold};
 ghost use Rattle.sender_rules.specs.Sender.Calls.{transport, whileAsked};
 ghost use Rattle.sender.specs.Replies.{acceptedTold};
 ghost use Rattle.path_rules.specs.Hops.Rows.{mostRouters, hopsFrom};
 ghost use Rattle.hops.specs.Replies.{verdictTold, verdictAnswerTold};
 ghost use Rattle.path_rules.specs.Path.Runs.{hop as oneHop, pathCalls, saidOf, concluded, runBy, ran, journey, runInRange, startReply, runCall};
-ghost use Rattle.path.specs.Replies.{startTold};
 use connection::is_in_range;
 use gateway_rules::Asking;
 use hops::Front;
@@ -27,6 +27,7 @@ use rates::TOP_CODE;
 use rates::transport_in_range;
 use receiver::Received;
 use receiver::receiver;
+use refusals::Answer;
 use refusals::Refusal;
 use router::Routed;
 use router::router;
@@ -35,6 +36,18 @@ use sender::ResponseAnswer;
 use sender::take_response;
 use sender_rules::Connection;
 use sender_rules::State;
+
+// The sender that a path is run with where nobody lends a connection: its window and ssthresh; and its round trip,
+// segment size and headers.
+pub const WINDOW: u64 = 14600;
+
+pub const SSTHRESH: u64 = 65535;
+
+pub const RTT: u64 = 600000;
+
+pub const MSS: u64 = 1460;
+
+pub const HEADERS: u64 = 40;
 
 // What a run answers, and the sender's record afterwards.
 pub struct Ran {
@@ -46,12 +59,6 @@ pub struct Ran {
 struct Concluded {
     verdict: Verdict,
     connection: Connection,
-}
-
-// Whether a packet may start on its path.
-enum Start {
-    Ready,
-    Refused(Refusal),
 }
 
 // ---- the hops' travel
@@ -173,27 +180,27 @@ fn run_in_range(connection: Connection, ceiling: u32, rtt: u64, mss: u64, header
 }
 
 // Whether a state waits for a response.
-fn waiting(state: State) -> Start
-    ensures { λ r. ⌜ startTold r ≡ whileAsked state (λ request. answer tt) ⌝ }
+fn waiting(state: State) -> Answer
+    ensures { λ r. ⌜ answerTold r ≡ whileAsked state (λ request. answer tt) ⌝ }
 {
     match state {
-        State::Idle => Start::Refused(Refusal::WrongState),
-        State::Asked(_) => Start::Ready,
-        State::Quick(_) => Start::Refused(Refusal::WrongState),
+        State::Idle => Answer::Refused(Refusal::WrongState),
+        State::Asked(_) => Answer::Done,
+        State::Quick(_) => Answer::Refused(Refusal::WrongState),
     }
 }
 
 // Looks at the packet as it was lent, and at the record's state.
-fn look_first(connection: Connection, packet: &[u8]) -> Start
-    ensures { λ r. ⌜ startTold r ≡ startReply connection (now (packet .entry)) ⌝ }
+fn look_first(connection: Connection, packet: &[u8]) -> Answer
+    ensures { λ r. ⌜ answerTold r ≡ startReply connection (now (packet .entry)) ⌝ }
 {
     match look(packet) {
-        Sight::Refused(why) => Start::Refused(why),
+        Sight::Refused(why) => Answer::Refused(why),
         Sight::Of(seen) => {
             let asking = seen.asking;
             let state = connection.state;
             match asking {
-                Asking::Nothing => Start::Refused(Refusal::NoRequest),
+                Asking::Nothing => Answer::Refused(Refusal::NoRequest),
                 Asking::For(_, _) => waiting(state),
             }
         }
@@ -227,11 +234,11 @@ pub fn run(
         };
     }
     match look_first(connection, packet) {
-        Start::Refused(why) => Ran {
+        Answer::Refused(why) => Ran {
             answer: VerdictAnswer::Refused(why),
             connection,
         },
-        Start::Ready => {
+        Answer::Done => {
             let ended = run_through(connection, packet, row, ceiling, rtt, mss, headers);
             let verdict = ended.verdict;
             let after = ended.connection;

@@ -19,6 +19,11 @@ use hops::nonce_of;
 use hops::survey;
 use hops::wide;
 use ipv4::write_checksum;
+use path::HEADERS;
+use path::MSS;
+use path::RTT;
+use path::SSTHRESH;
+use path::WINDOW;
 use path::run;
 use rates::TOP_CODE;
 use sender::ask;
@@ -149,17 +154,6 @@ fn bad_line(at: usize) -> Text
 }
 
 // ---- the run
-
-// Our own connection, where nobody lends one: its window and ssthresh; and its round trip, segment size and headers.
-pub const WINDOW: u64 = 14600;
-
-pub const SSTHRESH: u64 = 65535;
-
-pub const RTT: u64 = 600000;
-
-pub const MSS: u64 = 1460;
-
-pub const HEADERS: u64 = 40;
 
 // A header of 28 bytes with one option, without its checksum.
 fn header_with(ttl: u8, request: [u8; 8]) -> [u8; 28]

@@ -3,7 +3,7 @@ use Rattle.refusals.specs.Numbers.{numberOf}
 use Rattle.refusals.specs.Reply.{Reply, answer, refuse}
 use Rattle.receiver.specs.declared.Received.{Received}
 use Rattle.receiver.specs.declared.Received.the-variants as Receivings
-use Rattle.gateway_rules.specs.Receiver.Reactions.{Reaction, silence, response}
+use Rattle.gateway_rules.specs.Receiver.Reports.{Reaction, silence, response}
 
 abbrev pub receivedTold : Received → Reply Reaction
 receivedTold Receivings.Answered = answer response

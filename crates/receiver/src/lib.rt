@@ -2,9 +2,8 @@
 ghost use mathlib.Core.Path.{_≡_};
 ghost use lib.ListN.{length};
 ghost use Rattle.refusals.specs.Reply.{answer};
-ghost use Rattle.gateway_rules.specs.Receiver.Reports.{reportOn, receiverInRange, received, responseAfter};
+ghost use Rattle.gateway_rules.specs.Receiver.Reports.{reportOn, receiverInRange, received, responseAfter, reactionTo, reactionIn};
 ghost use Rattle.receiver.specs.Replies.{receivedTold};
-ghost use Rattle.gateway_rules.specs.Receiver.Reactions.{reactionTo, reactionIn};
 use gateway_rules::Asking;
 use inspect::Sight;
 use inspect::look;

@@ -1,3 +1,4 @@
 pub mod Numbers
 pub mod Reply
+pub mod Replies
 pub mod Claims

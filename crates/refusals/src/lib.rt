@@ -62,6 +62,12 @@ impl Refusal {
     }
 }
 
+// The answer of a call that has nothing else to say than that it was done, or its refusal.
+pub enum Answer {
+    Done,
+    Refused(Refusal),
+}
+
 // Whether `n` is at least `lo` and at most `hi`.
 pub fn in_range(lo: u64, n: u64, hi: u64) -> bool
     ensures { λ r. ⌜ r ≡ within lo n hi ⌝ }

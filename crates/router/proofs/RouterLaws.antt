@@ -26,8 +26,7 @@ use Rattle.wire_rules.specs.Ipv4.Views.{View, optionAt, requestAt, view, putReq
 use Rattle.wire_rules.specs.Ipv4.Claims.{FitsWhere}
 use Rattle.wire_rules.proofs.Ipv4.OptionLaws.{viewed-by}
 use Rattle.wire_rules.proofs.Ipv4.Claims.{viewing, forwarding}
-use Rattle.gateway_rules.specs.Ledgers.Calls.{Link, Granted, askReply}
-use Rattle.gateway_rules.specs.Ledgers.Held.{codeIn, linkIn}
+use Rattle.gateway_rules.specs.Ledgers.Calls.{Link, Granted, askReply, codeIn, linkIn}
 use Rattle.gateway_rules.proofs.Ledgers.Claims.{accepting}
 use Rattle.gateway_rules.specs.declared.Asking.{Asking}
 use Rattle.gateway_rules.specs.declared.Asking.the-variants.{Nothing, For}

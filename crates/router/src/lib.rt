@@ -22,7 +22,6 @@ use gateway_rules::Decision;
 use gateway_rules::Ledger;
 use inspect::Sight;
 use inspect::look;
-use ipv4::Forwarded;
 use ipv4::forward;
 use ipv4::pass_on;
 use ledger::Grant;
@@ -35,6 +34,7 @@ use options::nonce::after_lowering;
 use options::request;
 use rates::TOP_CODE;
 use rates::lesser;
+use refusals::Answer;
 use refusals::Refusal;
 use std::num::wrapping_sub_u8;
 use wire_rules::Request;
@@ -278,7 +278,7 @@ pub fn silent_router(packet: &mut [u8]) -> Routed
     ensures packet { λ _. ⌜ now (packet .exit) ≡ leaves (now (packet .entry)) (silentlyRouted (length (now (packet .entry))) (now (packet .entry))) ⌝ }
 {
     match forward(packet) {
-        Forwarded::Refused(why) => Routed::Refused(why),
-        Forwarded::Done => Routed::Done,
+        Answer::Refused(why) => Routed::Refused(why),
+        Answer::Done => Routed::Done,
     }
 }

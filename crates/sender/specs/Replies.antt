@@ -2,26 +2,14 @@
 use Prim.Native.Nat.{ℕ}
 use Rattle.refusals.specs.Numbers.{numberOf}
 use Rattle.refusals.specs.Reply.{Reply, answer, refuse}
-use Rattle.sender.specs.declared.AskAnswer.{AskAnswer}
-use Rattle.sender.specs.declared.AskAnswer.the-variants as Asks
 use Rattle.sender.specs.declared.ResponseAnswer.{ResponseAnswer}
 use Rattle.sender.specs.declared.ResponseAnswer.the-variants as ResponseAnswers
-use Rattle.sender.specs.declared.EndAnswer.{EndAnswer}
-use Rattle.sender.specs.declared.EndAnswer.the-variants as EndAnswers
 use Rattle.sender.specs.declared.Judgement.{Judgement}
 use Rattle.sender.specs.declared.Judgement.the-variants as Judgements
-
-abbrev pub askTold : AskAnswer → Reply (Unit {0})
-askTold Asks.Written = answer tt
-askTold (Asks.Refused why) = refuse (numberOf why)
 
 abbrev pub acceptedTold : ResponseAnswer → Reply ℕ
 acceptedTold (ResponseAnswers.Accepted rate) = answer rate
 acceptedTold (ResponseAnswers.Refused why) = refuse (numberOf why)
-
-abbrev pub endTold : EndAnswer → Reply (Unit {0})
-endTold EndAnswers.Done = answer tt
-endTold (EndAnswers.Refused why) = refuse (numberOf why)
 
 -- of a response with this rate
 abbrev pub judgementTold : ℕ → Judgement → Reply ℕ

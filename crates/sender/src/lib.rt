@@ -9,8 +9,9 @@ ghost use Rattle.wire_rules.specs.Rates.Steps.{topCode};
 ghost use Rattle.wire_rules.specs.Rates.Window.{transportInRange, windowBytes};
 ghost use Rattle.wire_rules.specs.Options.Wire.{optionLength, nonceLimit};
 ghost use Rattle.common.specs.Choice.{within};
+ghost use Rattle.refusals.specs.Replies.{answerTold};
 ghost use Rattle.sender_rules.specs.Sender.Calls.{wish, transport, askInRange, isBusy, isSoon, asked, judged, taken, granted, afterResponse, backTo, sending, senderCalls};
-ghost use Rattle.sender.specs.Replies.{askTold, acceptedTold, judgementTold, endTold};
+ghost use Rattle.sender.specs.Replies.{acceptedTold, judgementTold};
 use connection::MOST_BYTES;
 use connection::greater;
 use connection::is_before;
@@ -30,6 +31,7 @@ use rates::TOP_CODE;
 use rates::Window;
 use rates::transport_in_range;
 use rates::window_bytes;
+use refusals::Answer;
 use refusals::Refusal;
 use refusals::in_range;
 use sender_rules::Before;
@@ -39,15 +41,9 @@ use sender_rules::OpenRequest;
 use sender_rules::State;
 use wire_rules::Response;
 
-pub enum AskAnswer {
-    // The request was written, and the connection waits for the response.
-    Written,
-    Refused(Refusal),
-}
-
 // What asking answers, and the record afterwards.
 pub struct Asking {
-    pub answer: AskAnswer,
+    pub answer: Answer,
     pub connection: Connection,
 }
 
@@ -63,14 +59,9 @@ pub struct ResponseTaken {
     pub connection: Connection,
 }
 
-pub enum EndAnswer {
-    Done,
-    Refused(Refusal),
-}
-
 // What a first acknowledgement, a loss and giving up answer, and the record afterwards.
 pub struct Ended {
-    pub answer: EndAnswer,
+    pub answer: Answer,
     pub connection: Connection,
 }
 
@@ -157,44 +148,44 @@ pub fn ask(
     time: u64,
     request: &mut [u8],
 ) -> Asking
-    ensures answer { λ r. ⌜ askTold (r .answer) ≡ senderCalls .ask connection (wish code ttl «qs_ttl» nonce rtt time) (now (request .entry)) .said ⌝ }
+    ensures answer { λ r. ⌜ answerTold (r .answer) ≡ senderCalls .ask connection (wish code ttl «qs_ttl» nonce rtt time) (now (request .entry)) .said ⌝ }
     ensures record { λ r. ⌜ sending (r .connection) (now (request .exit)) ≡ senderCalls .ask connection (wish code ttl «qs_ttl» nonce rtt time) (now (request .entry)) .left ⌝ }
 {
     if !is_in_range(connection) {
         return Asking {
-            answer: AskAnswer::Refused(Refusal::OutOfRange),
+            answer: Answer::Refused(Refusal::OutOfRange),
             connection,
         };
     }
     if !ask_in_range(code, ttl, nonce, rtt, request.len()) {
         return Asking {
-            answer: AskAnswer::Refused(Refusal::OutOfRange),
+            answer: Answer::Refused(Refusal::OutOfRange),
             connection,
         };
     }
     let last = connection.last_request;
     if is_before(time, last) {
         return Asking {
-            answer: AskAnswer::Refused(Refusal::TimeBackwards),
+            answer: Answer::Refused(Refusal::TimeBackwards),
             connection,
         };
     }
     let state = connection.state;
     if is_busy(state) {
         return Asking {
-            answer: AskAnswer::Refused(Refusal::TooSoon),
+            answer: Answer::Refused(Refusal::TooSoon),
             connection,
         };
     }
     if is_soon(time, rtt, last) {
         return Asking {
-            answer: AskAnswer::Refused(Refusal::TooSoon),
+            answer: Answer::Refused(Refusal::TooSoon),
             connection,
         };
     }
     request::write(request, code, qs_ttl, nonce);
     Asking {
-        answer: AskAnswer::Written,
+        answer: Answer::Done,
         connection: ask_opened(connection, code, ttl, qs_ttl, nonce, time),
     }
 }
@@ -353,33 +344,33 @@ fn back(connection: Connection, window: u64) -> Connection
 // The first acknowledgement while quick, with the bytes in flight: the window is the lesser of itself and the greater
 // of flight and the window before.
 pub fn first_acknowledgement(connection: Connection, flight: u64) -> Ended
-    ensures answer { λ r. ⌜ endTold (r .answer) ≡ senderCalls .acknowledged connection flight .said ⌝ }
+    ensures answer { λ r. ⌜ answerTold (r .answer) ≡ senderCalls .acknowledged connection flight .said ⌝ }
     ensures record { λ r. ⌜ r .connection ≡ senderCalls .acknowledged connection flight .left ⌝ }
 {
     if !is_in_range(connection) {
         return Ended {
-            answer: EndAnswer::Refused(Refusal::OutOfRange),
+            answer: Answer::Refused(Refusal::OutOfRange),
             connection,
         };
     }
     if flight > MOST_BYTES {
         return Ended {
-            answer: EndAnswer::Refused(Refusal::OutOfRange),
+            answer: Answer::Refused(Refusal::OutOfRange),
             connection,
         };
     }
     let state = connection.state;
     match state {
         State::Idle => Ended {
-            answer: EndAnswer::Refused(Refusal::WrongState),
+            answer: Answer::Refused(Refusal::WrongState),
             connection,
         },
         State::Asked(_) => Ended {
-            answer: EndAnswer::Refused(Refusal::WrongState),
+            answer: Answer::Refused(Refusal::WrongState),
             connection,
         },
         State::Quick(before) => Ended {
-            answer: EndAnswer::Done,
+            answer: Answer::Done,
             connection: back(connection, greater(flight, before.window)),
         },
     }
@@ -387,27 +378,27 @@ pub fn first_acknowledgement(connection: Connection, flight: u64) -> Ended
 
 // A loss while quick: the window is the lesser of itself and the window before.
 pub fn loss(connection: Connection) -> Ended
-    ensures answer { λ r. ⌜ endTold (r .answer) ≡ senderCalls .lost connection .said ⌝ }
+    ensures answer { λ r. ⌜ answerTold (r .answer) ≡ senderCalls .lost connection .said ⌝ }
     ensures record { λ r. ⌜ r .connection ≡ senderCalls .lost connection .left ⌝ }
 {
     if !is_in_range(connection) {
         return Ended {
-            answer: EndAnswer::Refused(Refusal::OutOfRange),
+            answer: Answer::Refused(Refusal::OutOfRange),
             connection,
         };
     }
     let state = connection.state;
     match state {
         State::Idle => Ended {
-            answer: EndAnswer::Refused(Refusal::WrongState),
+            answer: Answer::Refused(Refusal::WrongState),
             connection,
         },
         State::Asked(_) => Ended {
-            answer: EndAnswer::Refused(Refusal::WrongState),
+            answer: Answer::Refused(Refusal::WrongState),
             connection,
         },
         State::Quick(before) => Ended {
-            answer: EndAnswer::Done,
+            answer: Answer::Done,
             connection: back(connection, before.window),
         },
     }
@@ -415,27 +406,27 @@ pub fn loss(connection: Connection) -> Ended
 
 // Giving up the open request.
 pub fn give_up(connection: Connection) -> Ended
-    ensures answer { λ r. ⌜ endTold (r .answer) ≡ senderCalls .gaveUp connection .said ⌝ }
+    ensures answer { λ r. ⌜ answerTold (r .answer) ≡ senderCalls .gaveUp connection .said ⌝ }
     ensures record { λ r. ⌜ r .connection ≡ senderCalls .gaveUp connection .left ⌝ }
 {
     if !is_in_range(connection) {
         return Ended {
-            answer: EndAnswer::Refused(Refusal::OutOfRange),
+            answer: Answer::Refused(Refusal::OutOfRange),
             connection,
         };
     }
     let state = connection.state;
     match state {
         State::Idle => Ended {
-            answer: EndAnswer::Refused(Refusal::WrongState),
+            answer: Answer::Refused(Refusal::WrongState),
             connection,
         },
         State::Quick(_) => Ended {
-            answer: EndAnswer::Refused(Refusal::WrongState),
+            answer: Answer::Refused(Refusal::WrongState),
             connection,
         },
         State::Asked(_) => Ended {
-            answer: EndAnswer::Done,
+            answer: Answer::Done,
             connection: with_state(connection, State::Idle),
         },
     }

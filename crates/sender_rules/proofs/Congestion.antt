@@ -1,3 +1,5 @@
+-- Laws of echoes, samples and phases; the claims of specs/Congestion/Claims.antt are proved in `Claims` or in a file `..Claims`, each
+-- under its name.
 pub mod PhaseLaws
 pub mod CallLaws
 pub mod PipeClaims

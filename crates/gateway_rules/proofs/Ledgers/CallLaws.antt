@@ -17,8 +17,7 @@ use Rattle.wire_rules.specs.Rates.Steps.{topCode, rateOf, Greatest}
 use Rattle.wire_rules.proofs.Rates.StepLaws.{greatest-rule}
 use Rattle.gateway_rules.specs.declared.Ledger.{Ledger}
 use Rattle.gateway_rules.specs.Ledgers.Rows.{total, passed, movedOn}
-use Rattle.gateway_rules.specs.Ledgers.Calls.{mostSlots, mostAllowance, Link, lent, linkInRange, setUpReply, movedTo, moveReply, grantOf, Granted, granted, askReply}
-use Rattle.gateway_rules.specs.Ledgers.Held.{ledgerIn, rowIn}
+use Rattle.gateway_rules.specs.Ledgers.Calls.{mostSlots, mostAllowance, Link, lent, linkInRange, setUpReply, movedTo, moveReply, grantOf, Granted, granted, askReply, ledgerIn, rowIn}
 use Rattle.gateway_rules.specs.Ledgers.Claims.{InRange}
 use Rattle.gateway_rules.proofs.Ledgers.RowLaws.{total-zeros, length-moved, total-moved, length-charged, total-charged}
 

@@ -17,8 +17,7 @@ use Rattle.wire_rules.specs.Rates.Steps.{topCode, rateOf, greatestUpTo}
 use Rattle.wire_rules.proofs.Rates.StepLaws.{greatest-only}
 use Rattle.gateway_rules.specs.declared.Ledger.{Ledger}
 use Rattle.gateway_rules.specs.Ledgers.Rows.{passed, movedOn, charged}
-use Rattle.gateway_rules.specs.Ledgers.Calls.{Link, lent, linkInRange, setUpReply, movedTo, moveReply, grantOf, Granted, granted, askReply}
-use Rattle.gateway_rules.specs.Ledgers.Held.{ledgerIn, rowIn, codeIn, linkIn}
+use Rattle.gateway_rules.specs.Ledgers.Calls.{Link, lent, linkInRange, setUpReply, movedTo, moveReply, grantOf, Granted, granted, askReply, ledgerIn, rowIn, codeIn, linkIn}
 use Rattle.gateway_rules.specs.Ledgers.History.{Calls, ledgerCalls, Call, Approval, Past, after, afterAll, approvedAt, inLast, approvedLast}
 use Rattle.gateway_rules.specs.Ledgers.History as histories
 use Rattle.gateway_rules.specs.Ledgers.Claims.{Totals, Approving, Moving, InRange, Tested, Testing, IsSetUp, Moves, Grants, Accepting, Saying, Accepts, Continuing, Accounted, HistoryTheorem, held, ownSum, ShutOut}

@@ -10,8 +10,7 @@ use Rattle.common.proofs.Choice.{le-or-gt}
 use Rattle.refusals.specs.Reply.{Reply, answer, refuse, leaves, done}
 use Rattle.wire_rules.specs.Rates.Steps.{rateOf}
 use Rattle.gateway_rules.specs.Ledgers.Rows.{total, movedOn, charged}
-use Rattle.gateway_rules.specs.Ledgers.Calls.{Link, movedTo, moveReply, grantOf, Granted, granted, askReply}
-use Rattle.gateway_rules.specs.Ledgers.Held.{codeIn, linkIn}
+use Rattle.gateway_rules.specs.Ledgers.Calls.{Link, movedTo, moveReply, grantOf, Granted, granted, askReply, codeIn, linkIn}
 use Rattle.gateway_rules.specs.Ledgers.History.{ledgerCalls, Call, moving, asking, Approval, Past, begun, afterMoving, afterAsking, after, afterAll, approvedLast}
 use Rattle.gateway_rules.specs.Ledgers.Claims.{InRange, Accounted, History}
 use Rattle.gateway_rules.proofs.Ledgers.CallLaws.{Sound, zeroed, set-up-sound, set-up-link, moved-sound, granted-sound, move-answered, ask-answered}

@@ -20,8 +20,7 @@ use Rattle.wire_rules.specs.declared.Request.{Request}
 use Rattle.wire_rules.specs.Ipv4.Views.{View, view, put}
 use Rattle.wire_rules.proofs.Ipv4.OptionLaws.{view-place}
 use Rattle.gateway_rules.specs.Ledgers.Rows.{total}
-use Rattle.gateway_rules.specs.Ledgers.Calls.{Link, lent, Granted, askReply}
-use Rattle.gateway_rules.specs.Ledgers.Held.{codeIn, linkIn}
+use Rattle.gateway_rules.specs.Ledgers.Calls.{Link, lent, Granted, askReply, codeIn, linkIn}
 use Rattle.gateway_rules.specs.Ledgers.History.{ledgerCalls, Call, asking, Past, begun, afterAsking, after, afterAll, inLast, approvedLast}
 use Rattle.gateway_rules.proofs.Ledgers.Claims.{accepting}
 use Rattle.gateway_rules.proofs.Ledgers.Claims as ledgers

@@ -74,3 +74,16 @@ askReply link tick asked =
     pick (within 1 asked topCode)
     (andThen (moveReply link tick) (λ moved. answer (granted asked moved)))
     (refuse 7)
+
+-- what a reply holds, part by part
+abbrev pub ledgerIn : Reply Link → Reply Ledger
+ledgerIn reply = andThen reply (λ link. answer (link .ledger))
+
+abbrev pub rowIn : Reply Link → Reply (List ℕ)
+rowIn reply = andThen reply (λ link. answer (link .row))
+
+abbrev pub codeIn : Reply Granted → Reply ℕ
+codeIn reply = andThen reply (λ granted. answer (granted .code))
+
+abbrev pub linkIn : Reply Granted → Reply Link
+linkIn reply = andThen reply (λ granted. answer (granted .link))

@@ -8,8 +8,7 @@ use Rattle.common.specs.Choice.{pick}
 use Rattle.refusals.specs.Reply.{Reply, answer, refuse, leaves, done, Outcome}
 use Rattle.wire_rules.specs.Rates.Steps.{rateOf}
 use Rattle.gateway_rules.specs.declared.Ledger.{Ledger}
-use Rattle.gateway_rules.specs.Ledgers.Calls.{Link, Granted, setUpReply, moveReply, askReply}
-use Rattle.gateway_rules.specs.Ledgers.Held.{ledgerIn, rowIn, codeIn, linkIn}
+use Rattle.gateway_rules.specs.Ledgers.Calls.{Link, Granted, setUpReply, moveReply, askReply, ledgerIn, rowIn, codeIn, linkIn}
 
 -- the calls of a ledger: what each says, and what it leaves behind in the link, or in the row that it sets up
 pub record Calls : Type 0 where

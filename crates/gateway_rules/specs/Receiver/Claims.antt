@@ -15,8 +15,7 @@ use Rattle.wire_rules.specs.Options.Responses.{responseRead}
 use Rattle.wire_rules.specs.declared.Place.the-variants.{Nowhere, At}
 use Rattle.wire_rules.specs.Ipv4.Packets.{located}
 use Rattle.wire_rules.specs.Ipv4.Views.{view}
-use Rattle.gateway_rules.specs.Receiver.Reports.{Report, unanswered, reported, received, responseAfter}
-use Rattle.gateway_rules.specs.Receiver.Reactions.{silence, response, reactionIn}
+use Rattle.gateway_rules.specs.Receiver.Reports.{Report, unanswered, reported, received, responseAfter, silence, response, reactionIn}
 
 -- a receiver: by how far the total length may reach, its ceiling and the bytes of the response buffer, what it reports of a packet
 abbrev pub Receiver : Type 0

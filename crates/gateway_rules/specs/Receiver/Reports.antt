@@ -42,3 +42,16 @@ abbrev pub responseAfter : List ℕ → Reply Report → List ℕ
 responseAfter old (answer (reported r)) = leaves old (responseWritten old (r .rate) (r .«ttl_diff») (r .nonce))
 responseAfter old (answer unanswered) = old
 responseAfter old (refuse n) = old
+
+-- whether a request was answered
+pub data Reaction : Type 0 where
+  silence : Reaction
+  response : Reaction
+
+abbrev pub reactionTo : Report → Reaction
+reactionTo unanswered = silence
+reactionTo (reported r) = response
+
+abbrev pub reactionIn : Reply Report → Reply Reaction
+reactionIn (answer report) = answer (reactionTo report)
+reactionIn (refuse n) = refuse n

@@ -6,11 +6,10 @@ use Prim.Native.Nat.{ℕ}
 use Rattle.common.specs.Choice.{within}
 use Rattle.common.proofs.Choice.{within-high, held, failed}
 use Rattle.refusals.specs.Reply.{Reply, answer, leaves}
+use Rattle.refusals.specs.Replies.{answerTold}
 use Rattle.refusals.proofs.ReplyLaws.{went, stayed}
 use Rattle.wire_rules.specs.Rates.Steps.{topCode}
-use Rattle.gateway_rules.specs.Ledgers.Calls.{lent, moveReply, Granted}
-use Rattle.ledger.specs.Replies.{moveTold}
-use Rattle.gateway_rules.specs.Ledgers.Held.{codeIn, linkIn}
+use Rattle.gateway_rules.specs.Ledgers.Calls.{lent, moveReply, Granted, codeIn, linkIn}
 use Rattle.gateway_rules.proofs.Ledgers.CallLaws.{Sound, moved-sound, move-answered, ask-seven, ask-after}
 use borrow.Author.Needs.{needs}
 use Rattle.ledger.proofs.ask.Statement.{statement}
@@ -28,7 +27,7 @@ moved : (c : tie.After-enum-told) →
 moved c =
     let a = c .before .before .before .before .before .before .before .before .before .before .args in
     let m = c .before .before .before .before .before .move-on in
-    went (lent (a .row .now) (a .ledger)) (lent (m .last .0) (m .result .ledger)) _ (sym (ap moveTold (c .enum-told .given .1)) ∙ m .ensures .0) (m .ensures .1)
+    went (lent (a .row .now) (a .ledger)) (lent (m .last .0) (m .result .ledger)) _ (sym (ap answerTold (c .enum-told .given .1)) ∙ m .ensures .0) (m .ensures .1)
 
 cast-in-range : tie.Need-cast-in-range
 cast-in-range c = search needs
@@ -68,7 +67,7 @@ returns-2 c =
     let a = c .before .before .before .before .before .before .before .before .before .before .before .args in
     let m = c .before .before .before .before .before .before .move-on in
     let link = lent (a .row .now) (a .ledger) in
-    let s = stayed link (lent (m .last .0) (m .result .ledger)) (moveReply link (a .tick)) _ (sym (ap moveTold (c .before .answer .given .1)) ∙ m .ensures .0) (m .ensures .1) in
+    let s = stayed link (lent (m .last .0) (m .result .ledger)) (moveReply link (a .tick)) _ (sym (ap answerTold (c .before .answer .given .1)) ∙ m .ensures .0) (m .ensures .1) in
     let e = ask-after link (a .tick) (a .code) _ (code-fits (c .before .before .before .before .before .before .before .before)) (s .0) in
     (sym (ap codeIn e), s .1 ∙ sym (ap (λ (r : Reply Granted). leaves link (linkIn r)) e))
 

@@ -3,10 +3,10 @@ use mathlib.Core.Bool.{true}
 use mathlib.Core.Path.{_≡_, sym, ap, _∙_}
 use Rattle.common.proofs.Choice.{held, failed}
 use Rattle.refusals.specs.Reply.{answer}
+use Rattle.refusals.specs.Replies.{answerTold}
 use Rattle.path_rules.specs.Hops.Rows.{mostRouters, hopsFrom, rowOf}
 use Rattle.hops.proofs.SurveyLaws.{whole-row, no-row}
 use Rattle.sender_rules.specs.Sender.Calls.{transport}
-use Rattle.path.specs.Replies.{startTold}
 use Rattle.path_rules.specs.Path.Runs.{runInRange}
 use Rattle.path_rules.proofs.Path.RunLaws.{call-no-row, call-out, call-refused, call-ran}
 use borrow.Author.Needs.{needs}
@@ -58,7 +58,7 @@ returns-3 : tie.Need-returns-3
 returns-3 c =
     let a = c .before .before .before .before .before .before .before .before .before .before .before .before .args in
     call-refused mostRouters (a .connection) (a .packet .now) (a .row .now) (a .ceiling) (transport (a .rtt) (a .mss) (a .headers)) _ (row-is (c .before .before .before .before .before .before .before)) (ok (c .before .before .before .before .before)) _
-    (sym (ap startTold (c .before .why .given .1)) ∙ c .before .before .before .look-first .ensures)
+    (sym (ap answerTold (c .before .why .given .1)) ∙ c .before .before .before .look-first .ensures)
 
 same-length-2 : tie.Need-same-length-2
 same-length-2 c = search needs
@@ -67,7 +67,7 @@ returns-4 : tie.Need-returns-4
 returns-4 c =
     let a = c .before .before .before .before .before .before .before .before .before .before .before .before .before .before .before .before .args in
     call-ran mostRouters (a .connection) (a .packet .now) (a .row .now) (a .ceiling) (transport (a .rtt) (a .mss) (a .headers)) _ (row-is (c .before .before .before .before .before .before .before .before .before .before .before)) (ok (c .before .before .before .before .before .before .before .before .before)) _
-    (sym (ap startTold (c .before .before .before .before .before .enum-told .given .1)) ∙ c .before .before .before .before .before .before .before .look-first .ensures)
+    (sym (ap answerTold (c .before .before .before .before .before .enum-told .given .1)) ∙ c .before .before .before .before .before .before .before .look-first .ensures)
     (c .before .before .before .run-through .ensures)
 
 pub run-spec : {M : Type 1} → statement M

@@ -16,8 +16,7 @@ use Rattle.gateway_rules.specs.declared.Asking.{Asking}
 use Rattle.gateway_rules.specs.declared.Seen.{Seen}
 use Rattle.gateway_rules.specs.Inspect.Sights.{requestOf, sighted, viewOf}
 use Rattle.gateway_rules.proofs.Inspect.Claims.{looking}
-use Rattle.gateway_rules.specs.Receiver.Reports.{Report, unanswered, reported, responseAfter}
-use Rattle.gateway_rules.specs.Receiver.Reactions.{silence, response, reactionIn}
+use Rattle.gateway_rules.specs.Receiver.Reports.{Report, unanswered, reported, responseAfter, silence, response, reactionIn}
 use Rattle.sender_rules.specs.declared.Connection.{Connection}
 use Rattle.sender_rules.specs.Sender.Calls.{Transport, whileAsked}
 use Rattle.path_rules.specs.declared.Router.{Router}

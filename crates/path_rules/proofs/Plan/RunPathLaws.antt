@@ -25,7 +25,8 @@ use Rattle.path_rules.proofs.Path.PlainLaws.{formed}
 use Rattle.path_rules.proofs.Path.Claims.{notEmpty}
 use Rattle.path_rules.proofs.Path.RunClaims.{said-of-row}
 use Rattle.path_rules.specs.Plan.Records.{Plan, startsRequest, startsReceiver, hopsOf, planOf}
-use Rattle.path_rules.specs.Plan.Lines.{window, ssthresh, roundTrip, segment, headers, givenFor, verdictFor}
+use Rattle.path_rules.specs.Path.Own.{window, ssthresh, roundTrip, segment, headers}
+use Rattle.path_rules.specs.Plan.Lines.{givenFor, verdictFor}
 use Rattle.path_rules.specs.Path.Demands.{headerWith}
 use Rattle.path_rules.specs.Plan.Parts.{withSeal, runSaid}
 use Rattle.path_rules.specs.Plan.Claims.{PlanInRange}

@@ -36,7 +36,8 @@ use Rattle.path_rules.specs.Path.Claims.{AllKnow, Passable, leastAlong, 
 use Rattle.path_rules.proofs.Path.Claims.{pathLaw}
 use Rattle.path_rules.proofs.Path.RunClaims.{callLaw}
 use Rattle.path_rules.specs.Plan.Records.{Plan}
-use Rattle.path_rules.specs.Plan.Lines.{ownTransport, givenFor}
+use Rattle.path_rules.specs.Path.Own.{ownTransport}
+use Rattle.path_rules.specs.Plan.Lines.{givenFor}
 use Rattle.path_rules.specs.Plan.Claims.{PlanInRange}
 use Rattle.path_rules.proofs.Plan.RunPathLaws.{demanded}
 use Rattle.path_rules.specs.declared.Hop.{Hop}

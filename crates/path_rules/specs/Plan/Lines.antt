@@ -4,32 +4,14 @@ use mathlib.Core.List.{List, [], _∷_, _++_}
 use lib.Dec.{ltb}
 use Rattle.common.specs.Choice.{pick}
 use Rattle.sender_rules.specs.Connections.Records.{freshWith}
-use Rattle.sender_rules.specs.Sender.Calls.{Wish, wish, Transport, transport, Sending}
+use Rattle.sender_rules.specs.Sender.Calls.{Wish, wish, Sending}
 use Rattle.path_rules.specs.Hops.Verdicts.{Verdict, lost, unanswered, notAccepted, accepted}
 use Rattle.path_rules.specs.Path.Runs.{pathCalls, blank}
+use Rattle.path_rules.specs.Path.Own.{window, ssthresh, roundTrip, ownTransport}
 use Rattle.path_rules.specs.Path.Demands.{Setting, verdictBy, plain}
 use Rattle.path_rules.specs.Plan.Records.{Plan, Reading, good, bad, readPlan}
 
 -- ---- the run
-
--- our own connection, where nobody lends one: its window and ssthresh; and its T, MSS and H
-abbrev pub window : ℕ
-window = 14600
-
-abbrev pub ssthresh : ℕ
-ssthresh = 65535
-
-abbrev pub roundTrip : ℕ
-roundTrip = 600000
-
-abbrev pub segment : ℕ
-segment = 1460
-
-abbrev pub headers : ℕ
-headers = 40
-
-abbrev pub ownTransport : Transport
-ownTransport = transport roundTrip segment headers
 
 -- what it asks for, and what that asking leaves
 abbrev pub wishFor : ℕ → ℕ → ℕ → ℕ → Wish

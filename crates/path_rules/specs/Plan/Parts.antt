@@ -8,7 +8,8 @@ use Rattle.path_rules.specs.Hops.Rows.{mostRouters}
 use Rattle.path_rules.specs.Hops.Verdicts.{Verdict}
 use Rattle.path_rules.specs.Path.Demands.{headerWith}
 use Rattle.path_rules.specs.Path.Runs.{runCall}
-use Rattle.path_rules.specs.Plan.Lines.{ownTransport, askedFor}
+use Rattle.path_rules.specs.Path.Own.{ownTransport}
+use Rattle.path_rules.specs.Plan.Lines.{askedFor}
 
 -- a packet with its checksum written, if it has a header
 abbrev pub withSeal : List ℕ → List ℕ

@@ -4,8 +4,7 @@ use mathlib.Core.Path.{_≡_, sym, ap, _∙_}
 use lib.ListN.{length}
 use Rattle.common.proofs.Choice.{held, failed}
 use Rattle.inspect.specs.Replies.{sightTold}
-use Rattle.gateway_rules.specs.Receiver.Reports.{receiverInRange, responseAfter}
-use Rattle.gateway_rules.specs.Receiver.Reactions.{reactionIn}
+use Rattle.gateway_rules.specs.Receiver.Reports.{receiverInRange, responseAfter, reactionIn}
 use Rattle.gateway_rules.proofs.Receiver.ReportLaws.{received-seven, received-refused, received-seen}
 use borrow.Author.Needs.{needs}
 use Rattle.receiver.proofs.receiver.Statement.{statement}

@@ -1,8 +1,7 @@
 -- `receiver::respond` meets its contract: it is silent, or writes what is to be reported. Assumes nothing.
 use mathlib.Core.Path.{sym, ap, _∙_}
 use Rattle.refusals.specs.Reply.{answer}
-use Rattle.gateway_rules.specs.Receiver.Reports.{Report, responseAfter}
-use Rattle.gateway_rules.specs.Receiver.Reactions.{reactionTo}
+use Rattle.gateway_rules.specs.Receiver.Reports.{Report, responseAfter, reactionTo}
 use Rattle.gateway_rules.proofs.Receiver.ReportLaws.{no-report, report-by}
 use borrow.Author.Needs.{needs}
 use Rattle.receiver.proofs.respond.Statement.{statement}

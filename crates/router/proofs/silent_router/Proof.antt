@@ -1,7 +1,7 @@
 -- `router::silent_router` meets its contract: it answers what forwarding answered. Assumes nothing.
 use mathlib.Core.Path.{sym, ap, _∙_}
-use Rattle.ipv4.specs.Replies.{forwardedTold}
 use borrow.Author.Needs.{needs}
+use Rattle.refusals.specs.Replies.{answerTold}
 use Rattle.router.proofs.silent_router.Statement.{statement}
 use Rattle.router.proofs.silent_router.Tie as tie
 
@@ -20,7 +20,7 @@ same-length c = search needs
 returns : tie.Need-returns
 returns c =
     let f = c .before .before .before .before .before .forward .ensures in
-    (sym (ap forwardedTold (c .before .why .given .1)) ∙ f .0, f .1)
+    (sym (ap answerTold (c .before .why .given .1)) ∙ f .0, f .1)
 
 same-length-2 : tie.Need-same-length-2
 same-length-2 c = search needs
@@ -28,7 +28,7 @@ same-length-2 c = search needs
 returns-2 : tie.Need-returns-2
 returns-2 c =
     let f = c .before .before .before .before .forward .ensures in
-    (sym (ap forwardedTold (c .enum-told .given .1)) ∙ f .0, f .1)
+    (sym (ap answerTold (c .enum-told .given .1)) ∙ f .0, f .1)
 
 pub silent-router-spec : {M : Type 1} → statement M
 silent-router-spec =
