@@ -1,6 +1,5 @@
-// The sender's record of one connection, taken and handed back by value: the state of its Quick-Start request, its
-// window, and what ECN and pipeACK keep of it. A record is made of numbers too: every call tests them, and refuses a
-// record that is out of range with 7.
+// Functions on the sender's record of one connection (`sender_rules::Connection`), which is taken and handed back by
+// value. A record is made of numbers too: every call tests them, and refuses a record that is out of range with 7.
 ghost use mathlib.Core.Path.{_≡_};
 ghost use Prim.Native.Nat.{_≤_, min, max};
 ghost use lib.ListN.{take};

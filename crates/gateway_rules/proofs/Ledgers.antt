@@ -1,5 +1,4 @@
--- Laws of rows, calls and histories; the claims of specs/Ledgers/Claims.antt are read off in `Claims`, each under its name, from the files
--- before it.
+-- Laws of rows, calls and histories; the claims of specs/Ledgers/Claims.antt are proved in `Claims`, each under its name.
 pub mod RowLaws
 pub mod CallLaws
 pub mod HistoryLaws

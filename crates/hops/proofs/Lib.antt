@@ -1,1 +1,4 @@
 pub mod SurveyLaws
+pub mod JoinLaws
+pub mod RowLaws
+pub mod VerdictLaws

@@ -12,10 +12,11 @@ use Rattle.path_rules.specs.declared.Router.{Router}
 use Rattle.path_rules.specs.declared.Summary.{Summary}
 use Rattle.path_rules.specs.Hops.Rows.{mostRouters, frontOf, lengthOf, Hops, noHops, ahead, hopsFrom, rowOf}
 use Rattle.path_rules.specs.Hops.Summaries.{summaryOf, joined}
-use Rattle.path_rules.specs.Hops.Parts.{one}
+use Rattle.hops.specs.Parts.{one}
 use Rattle.path_rules.specs.Hops.Claims.{Ranged}
-use Rattle.path_rules.proofs.Hops.RowLaws.{front-fits, hops-end, hops-on}
-use Rattle.path_rules.proofs.Hops.JoinLaws.{joined-nobody, joined-one, joined-last, routers-more, ranged-more}
+use Rattle.path_rules.proofs.Hops.RowLaws.{hops-end}
+use Rattle.hops.proofs.RowLaws.{front-fits, hops-on}
+use Rattle.hops.proofs.JoinLaws.{joined-nobody, joined-one, joined-last, routers-more, ranged-more}
 
 -- what is left from a place on, when a sum has been made of what stands before it
 abbrev pub leftFrom : List ℕ → Summary → ℕ → Hops

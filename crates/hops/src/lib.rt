@@ -8,7 +8,7 @@ ghost use Rattle.wire_rules.specs.Options.Wire.{wordFrom};
 ghost use Rattle.path_rules.specs.Hops.Rows.{mostRouters, frontOf, lengthOf, hopsFrom};
 ghost use Rattle.path_rules.specs.Hops.Summaries.{joined, summaryOf, summaryInRange, summaryReply, joinReply};
 ghost use Rattle.path_rules.specs.Hops.Verdicts.{verdictInRange, verdictOf, verdictReply};
-ghost use Rattle.path_rules.specs.Hops.Parts.{one};
+ghost use Rattle.hops.specs.Parts.{one};
 ghost use Rattle.hops.specs.Replies.{frontTold, summaryTold, verdictTold, verdictAnswerTold};
 use options::word_from;
 use path_rules::Router;

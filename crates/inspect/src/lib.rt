@@ -3,7 +3,8 @@
 ghost use mathlib.Core.Path.{_≡_};
 ghost use lib.ListN.{length};
 ghost use Rattle.wire_rules.specs.Ipv4.Views.{requestAt};
-ghost use Rattle.gateway_rules.specs.Inspect.Sights.{Room, askingAt, sighted};
+ghost use Rattle.gateway_rules.specs.Inspect.Sights.{askingAt, sighted};
+ghost use Rattle.inspect.specs.Parts.{Room};
 ghost use Rattle.inspect.specs.Replies.{sightTold};
 use gateway_rules::Asking;
 use gateway_rules::Seen;

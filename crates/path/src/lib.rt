@@ -2,7 +2,6 @@
 // then to the receiver, and what the receiver answers goes back to the sender. It calls the very functions that a
 // gateway calls.
 ghost use mathlib.Core.Path.{_≡_};
-ghost use lib.ListN.{length};
 ghost use Rattle.refusals.specs.Reply.{answer, leaves, done};
 ghost use Rattle.refusals.specs.Replies.{answerTold};
 ghost use Rattle.router.specs.Replies.{routedTold};

@@ -1,5 +1,4 @@
--- Laws of rows, spellings, summaries and verdicts; the claims of specs/Hops/Claims.antt are proved in `Claims` or in a file `..Claims`,
--- each under its name.
+-- Laws of rows, spellings, summaries and verdicts; the claims of specs/Hops/Claims.antt are proved in `Claims`, each under its name.
 pub mod RowLaws
 pub mod SpellLaws
 pub mod SummaryLaws

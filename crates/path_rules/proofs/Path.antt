@@ -1,5 +1,5 @@
--- Laws of runs and the path law; the claims of specs/Path/Claims.antt are read off in `Claims`, each under its name, from the files before
--- it.
+-- Laws of runs and the path law; the claims of specs/Path/Claims.antt are read off in `Claims`, those on the call in `RunClaims`, each
+-- under its name, from the files before.
 pub mod RunLaws
 pub mod FlightLaws
 pub mod EndLaws

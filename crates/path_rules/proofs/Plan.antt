@@ -5,7 +5,6 @@ pub mod InputLaws
 pub mod FormatLaws
 pub mod EnoughLaws
 pub mod SpellingLaws
-pub mod ReadLaws
-pub mod RunPathLaws
+pub mod GivenLaws
 pub mod LineLaws
 pub mod Claims

@@ -1,2 +1,4 @@
 pub mod TextLaws
-pub mod AnswerLaws
+pub mod InputLaws
+pub mod ReadLaws
+pub mod RunPathLaws

@@ -1,4 +1,4 @@
--- What a text holds. Assumes nothing.
+-- The bytes that a `Text` holds. Assumes nothing.
 use Prim.Native.Nat.{ℕ}
 use mathlib.Core.List.{List}
 use lib.ListN.{take}

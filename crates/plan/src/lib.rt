@@ -11,7 +11,7 @@ ghost use Rattle.path_rules.specs.Path.Demands.{headerWith};
 ghost use Rattle.path_rules.specs.Plan.Records.{startsRequest, startsReceiver, hopsOf, planOf};
 ghost use Rattle.path_rules.specs.Plan.Lines.{decimal, verdictLine, badLine, verdictFor, lineOf};
 ghost use Rattle.plan.specs.Texts.{textOf};
-ghost use Rattle.path_rules.specs.Plan.Parts.{runSaid};
+ghost use Rattle.plan.specs.Parts.{runSaid};
 use connection::fresh;
 use hops::Verdict;
 use hops::VerdictAnswer;

@@ -1,5 +1,5 @@
-// The refusals of document 01's table, each by a name of its own, and its number;
-// and the test that a number lies in its range, by which OutOfRange is given.
+// The refusals of document 01's table, each by a name of its own, and its number; the plain answer of a
+// call; and the test that a number lies in its range, by which OutOfRange is given.
 ghost use mathlib.Core.Path.{_≡_};
 ghost use Rattle.common.specs.Choice.{within};
 ghost use Rattle.refusals.specs.Numbers.{numberOf};

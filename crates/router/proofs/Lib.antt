@@ -1,2 +1,3 @@
 pub mod RouterLaws
 pub mod KeptLaws
+pub mod DecisionLaws

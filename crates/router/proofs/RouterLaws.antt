@@ -32,15 +32,16 @@ use Rattle.gateway_rules.specs.declared.Asking.{Asking}
 use Rattle.gateway_rules.specs.declared.Asking.the-variants.{Nothing, For}
 use Rattle.gateway_rules.specs.declared.Seen.{Seen}
 use Rattle.gateway_rules.specs.Inspect.Sights.{askingAt, requestOf, sighted}
-use Rattle.gateway_rules.proofs.Inspect.SightLaws.{room-of, request-kept}
+use Rattle.gateway_rules.proofs.Inspect.SightLaws.{request-kept}
+use Rattle.inspect.proofs.SightLaws.{room-of}
 use Rattle.gateway_rules.specs.declared.Decision.{Decision}
 use Rattle.gateway_rules.specs.declared.Decision.the-variants as Decisions
 use Rattle.gateway_rules.specs.Router.Decisions.{decided, denial, writtenBy, over}
 use Rattle.gateway_rules.specs.Router.Routers.{routerInRange, unexpired, routedView, routed, wishOf, ceilingFrom, Passage, passage, routedByLedger}
 use Rattle.router.specs.Parts.{met, metView, ReadableWhere, decisionWritten}
 use Rattle.gateway_rules.proofs.Router.DecisionLaws.{in-range, ranges, decided-fits}
-use Rattle.gateway_rules.proofs.Router.PassedLaws.{asked-for, wish-low}
-use Rattle.gateway_rules.proofs.Router.PassedLaws as Passed
+use Rattle.gateway_rules.proofs.Router.CallLaws.{asked-for, wish-low}
+use Rattle.gateway_rules.proofs.Router.CallLaws as Passed
 
 -- ---- the eight bytes lent
 
@@ -256,5 +257,3 @@ module _ (reach ceiling fresh tick : ℕ) (p : Passage) where
         pub ledger-granted : (g : Granted) → askReply (p .link) tick (wishOf ceiling (requestOf asking)) ≡ answer g
             → answer (passage (put (p .packet) (routedView (g .code) fresh (metView (p .packet) asking))) (g .link)) ≡ routedByLedger reach ceiling fresh tick p
         ledger-granted g a = ledger-asked (answer g) a
-
--- ---- what an accepted call came through

@@ -12,7 +12,7 @@ ghost use Rattle.path_rules.specs.Hops.Rows.{mostRouters, recordOf};
 ghost use Rattle.path_rules.specs.Hops.Summaries.{summaryOver};
 ghost use Rattle.hops.specs.Replies.{summaryTold, verdictAnswerTold};
 ghost use Rattle.path_rules.specs.Path.Runs.{journey, callOver};
-ghost use Rattle.path_rules.specs.Path.Own.{ownTransport};
+ghost use Rattle.path_rules.specs.Path.OwnSender.{ownTransport};
 ghost use Rattle.path_rules.specs.Rows.Rows.{hopInRange, hopsSummary, hopsCall};
 ghost use Rattle.path_rules.specs.Rows.Results.{summaryLent, summaryResult, openFor, verdictResult};
 ghost use Rattle.rows.specs.Parts.{lastPlace, nothingYet, takes as takesHop, withHop, gathered, rowIn};

@@ -2,7 +2,7 @@
 -- under its name.
 pub mod PhaseLaws
 pub mod CallLaws
-pub mod PipeClaims
+pub mod PipeLaws
 pub mod EchoClaims
 pub mod SampleClaims
 pub mod PhaseClaims

@@ -1,5 +1,4 @@
--- Laws of rates, roundings and the window; the claims of specs/Rates/Claims.antt are proved in `Claims` or in a file `..Claims`, each
--- under its name.
+-- Laws of rates, roundings and the window; the claims of specs/Rates/Claims.antt are proved in `Claims`, each under its name.
 pub mod StepLaws
 pub mod WindowLaws
 pub mod Claims

@@ -19,7 +19,7 @@ pub struct Response {
 
 // ---- walk
 
-// Where a Quick-Start option stands, by the offset of its type: in the options area as `find` answers, in
+// Where a Quick-Start option stands, by the offset of its type: in the options area as `walk::find` answers, in
 // the packet as `ipv4::locate` does.
 pub enum Place {
     Nowhere,

@@ -5,7 +5,8 @@ use Rattle.common.proofs.Choice.{held, failed}
 use Rattle.sender_rules.specs.Connections.Records.{inRange}
 use Rattle.sender_rules.specs.Congestion.Phases.{isEarly, phaseInRange}
 use Rattle.sender_rules.specs.Congestion.Calls.{afterPhase}
-use Rattle.sender_rules.proofs.Congestion.CallLaws.{ranges, round-trip, phase-record, phase-numbers, phase-early, phase-said}
+use Rattle.sender_rules.proofs.Congestion.CallLaws.{phase-record, phase-numbers, phase-early, phase-said}
+use Rattle.congestion.proofs.CallLaws.{ranges, round-trip}
 use borrow.Author.Needs.{needs}
 use Rattle.congestion.proofs.phase.Statement.{statement}
 use Rattle.congestion.proofs.phase.Tie as tie

@@ -5,7 +5,8 @@ use Rattle.common.proofs.Choice.{held, failed}
 use Rattle.refusals.specs.Reply.{done, leaves}
 use Rattle.sender_rules.specs.Connections.Records.{inRange}
 use Rattle.sender_rules.specs.Congestion.Phases.{sampleOf}
-use Rattle.sender_rules.proofs.Congestion.CallLaws.{ranges, sample-record, sample-bytes, sample-early, sample-done}
+use Rattle.sender_rules.proofs.Congestion.CallLaws.{sample-record, sample-bytes, sample-early, sample-done}
+use Rattle.congestion.proofs.CallLaws.{ranges}
 use borrow.Author.Needs.{needs}
 use Rattle.congestion.proofs.sample.Statement.{statement}
 use Rattle.congestion.proofs.sample.Tie as tie

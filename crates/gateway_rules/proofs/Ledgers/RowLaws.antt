@@ -4,28 +4,19 @@ use mathlib.Core.List.{List, [], _∷_}
 use mathlib.Core.Logic.{⊎-elim}
 use mathlib.Core.Path.{_≡_, refl, sym, ap, subst, _∙_}
 use native.Mathlib.Nat.{mod-lt, eq-or-lt-of-le, add-zero}
-use native.Mathlib.Numerals.{add-one}
 use native.Mathlib.Omega.{arith}
-use lib.ListN.{length, getD, set, drop, replicate, length-set, length-replicate, getD-replicate}
-use lib.Seq.{drop-cons, getD-set-same, getD-set-other, set-getD, ext-getD}
+use lib.ListN.{length, getD, set, replicate, length-set, length-replicate, getD-replicate}
+use lib.Seq.{getD-set-same, getD-set-other, set-getD, ext-getD}
 use Rattle.common.proofs.Lists.{zero-kept}
 use Rattle.common.proofs.Remainders.{reached}
 use Rattle.gateway_rules.specs.Ledgers.Rows.{total, slotOf, passed, movedOn, charged}
 
 -- ---- the total
 
-pub total-from : (row : List ℕ) (i : ℕ) → i < length row → total (drop i row) ≡ getD row i 0 + total (drop (i + 1) row)
-total-from row i h = rw add-one (ap total (drop-cons row i 0 h))
-
 pub total-set : (row : List ℕ) (i a : ℕ) → i < length row → total (set row i a) + getD row i 0 ≡ total row + a
 total-set [] i a h = absurd (omega arith)
 total-set (x ∷ row) zero a h = omega arith
 total-set (x ∷ row) (suc i) a h = let ih = total-set row i a (omega arith) in omega arith
-
-pub slot-most : (row : List ℕ) (i : ℕ) → getD row i 0 ≤ total row
-slot-most [] i = omega arith
-slot-most (x ∷ row) zero = omega arith
-slot-most (x ∷ row) (suc i) = let ih = slot-most row i in omega arith
 
 pub total-zeros : (n : ℕ) → total (replicate n 0) ≡ 0
 total-zeros zero = refl
@@ -40,14 +31,6 @@ pub length-passed : (n old : ℕ) (row : List ℕ) → length (passed n old row)
 unfolding passed
 length-passed zero old row = refl
 length-passed (suc n) old row = length-set (passed n old row) _ 0 ∙ length-passed n old row
-
--- one tick more
-pub passed-next : (old t : ℕ) (row : List ℕ) → old ≤ t → passed (t + 1 - old) old row ≡ set (passed (t - old) old row) ((t + 1) % length row) 0
-unfolding passed
-passed-next old t row h =
-    let e : t + 1 - old ≡ suc (t - old) = omega arith in
-    let f : old + suc (t - old) ≡ t + 1 = omega arith in
-    rw (e, f, length-passed (t - old) old row)
 
 -- the slot of a tick passed is zeroed, and a slot of none of them stays
 pub passed-slot : (n old j : ℕ) (row : List ℕ) → 0 < length row → 1 ≤ j → j ≤ n → getD (passed n old row) ((old + j) % length row) 0 ≡ 0

@@ -1,17 +1,15 @@
 -- Laws of a decision: which it is, by the rate and the ceiling, and that what it writes are numbers that can be written. Assumes nothing.
-use Prim.Native.Nat.{ℕ, _+_, _%_, _^_, _≤_, _<_, min}
+use Prim.Native.Nat.{ℕ, _≤_, _<_, min}
 use mathlib.Core.Bool.{true}
 use mathlib.Core.Option.{Option, none, some}
-use mathlib.Core.Path.{_≡_, refl, sym, ap, ap₂, _∙_}
+use mathlib.Core.Path.{_≡_, refl, sym}
 use native.Mathlib.Omega.{arith}
 use lib.Dec.{eqb, leb, ltb}
 use borrow.Author.Tests.{eq-eqb, ne-eqb, leb-true, ltb-true, le-leb, lt-ltb}
-use Rattle.common.proofs.Choice.{clash, both-true, by-test}
-use Rattle.refusals.specs.Reply.{answer, refuse}
+use Rattle.common.proofs.Choice.{both-true, by-test}
 use Rattle.wire_rules.specs.Rates.Steps.{topCode}
 use Rattle.wire_rules.specs.declared.Request.{Request}
 use Rattle.wire_rules.specs.Options.Wire.{nonceLimit}
-use Rattle.wire_rules.specs.Options.Nonces.{lowered, loweredReply}
 use Rattle.wire_rules.proofs.Options.Claims.{lowering}
 use Rattle.wire_rules.specs.Ipv4.Views.{View}
 use Rattle.wire_rules.specs.Ipv4.Claims.{RequestFits, FitsWhere, Fits, asks}
@@ -49,26 +47,6 @@ module _ (ceiling fresh : ℕ) (r : Request) where
   pub denied : (r .rate ≡ 0 → ⊥) → min (r .rate) ceiling ≡ 0 → Denied ≡ decided ceiling fresh r
   unfolding decided
   denied n e = simp (ne-eqb (r .rate) 0 n, eq-eqb (min (r .rate) ceiling) 0 e)
-
-  -- by what the callees answered
-  module _ (rate : ℕ) (least : rate ≡ min (r .rate) ceiling) (fits : r .rate ≤ topCode) (nonce-fits : r .nonce < nonceLimit) (ok : InRange ceiling fresh) where
-    reply-is : loweredReply (r .rate) rate (r .nonce) fresh ≡ answer (lowered (r .rate) rate (r .nonce) fresh)
-    reply-is =
-        let low : rate ≤ topCode = omega arith in
-        simp (le-leb (r .rate) topCode fits, le-leb rate topCode low, lt-ltb (r .nonce) nonceLimit nonce-fits, lt-ltb fresh nonceLimit (ok .fresh-fits))
-
-    pub never-refused : (n : ℕ) (d : Decision) → refuse n ≡ loweredReply (r .rate) rate (r .nonce) fresh → d ≡ decided ceiling fresh r
-    never-refused n d e = absurd (clash (let x = e ∙ reply-is in cc))
-
-    pub approved-by : (ttl nonce : ℕ) → (r .rate ≡ 0 → ⊥) → (rate ≡ 0 → ⊥) → (ttl + 1) % 2 ^ 8 ≡ r .«qs_ttl» → ttl < 256 → answer nonce ≡ loweredReply (r .rate) rate (r .nonce) fresh
-        → Approved (record { rate = rate; «qs_ttl» = ttl; nonce = nonce }) ≡ decided ceiling fresh r
-    unfolding oneLess
-    approved-by ttl nonce n m t small e =
-        let wrapped : ttl ≡ (r .«qs_ttl» + 255) % 256 = omega arith in
-        let mixed : nonce ≡ lowered (r .rate) rate (r .nonce) fresh = let x = e ∙ reply-is in cc in
-        ap₂ (λ (q k : ℕ). Approved (record { rate = rate; «qs_ttl» = q; nonce = k })) wrapped mixed
-        ∙ ap (λ (k : ℕ). Approved (approvedAt k fresh r)) least
-        ∙ approved n (λ z. m (least ∙ z))
 
 -- ---- what it writes
 

@@ -33,7 +33,7 @@ use Rattle.gateway_rules.specs.Router.Decisions.{oneLess, approvedAt, de
 use Rattle.gateway_rules.specs.Router.Routers.{routerInRange, unexpired, routedView, routed, silentlyRouted}
 use Rattle.gateway_rules.specs.Router.Claims.{Approves, Given, PassedOn, OutsideOption, Anywhere, AsksNothing, Carries, Leaves}
 use Rattle.gateway_rules.proofs.Router.DecisionLaws.{in-range, ranges, nothing-decided, denied, approved, asks-kept, routed-fits}
-use Rattle.gateway_rules.proofs.Router.PassedLaws.{routed-by}
+use Rattle.gateway_rules.proofs.Router.CallLaws.{routed-by}
 
 -- ---- ranges
 

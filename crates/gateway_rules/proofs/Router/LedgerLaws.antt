@@ -21,7 +21,7 @@ use Rattle.gateway_rules.specs.Ledgers.Calls.{Link, linkInRange, Granted
 use Rattle.gateway_rules.proofs.Ledgers.CallLaws as calls
 use Rattle.gateway_rules.specs.Router.Routers.{routerInRange, unexpired, routedView, wishOf, ceilingFrom, Passage, passage, routedByLedger}
 use Rattle.gateway_rules.specs.Router.Claims.{AllGiven, AsksNoLedger, AtCeiling, LedgerRouting}
-use Rattle.gateway_rules.proofs.Router.PassedLaws.{wish-low, asked-for, from-ledger}
+use Rattle.gateway_rules.proofs.Router.CallLaws.{wish-low, asked-for, from-ledger}
 use Rattle.gateway_rules.proofs.Router.HopLaws.{ok-given, given-ok, routed-view}
 
 module _ (ceiling fresh : ℕ) (p : Passage) where

@@ -14,7 +14,7 @@ use Rattle.gateway_rules.specs.Router.Decisions.{approvedAt, decided, de
 use Rattle.gateway_rules.specs.Router.Routers.{routed, silentlyRouted}
 use Rattle.gateway_rules.specs.Router.Claims.{Deciding, Testing, Passing, Silence, OneHop, SilentHop}
 use Rattle.gateway_rules.proofs.Router.DecisionLaws.{nothing-decided}
-use Rattle.gateway_rules.proofs.Router.PassedLaws.{routed-seven}
+use Rattle.gateway_rules.proofs.Router.CallLaws.{routed-seven}
 use Rattle.gateway_rules.proofs.Router.HopLaws.{not-given, routed-fault, routed-six, routed-view, ttl-shown, routed-passed, routed-reserved, silent-faulty, silent-passed, silent-six, silent-accepted, untouched-passed, hop, silent-hop, denied-at, approved-at, approves-it}
 
 pub deciding : Deciding

@@ -29,7 +29,7 @@ use Rattle.gateway_rules.specs.Router.Decisions.{decided, writtenBy, ove
 use Rattle.gateway_rules.specs.Router.Routers.{routedView, wishOf, ceilingFrom, Passage, passage, routedByLedger, ledgerRouter}
 use Rattle.gateway_rules.specs.Router.Traffic.{Arrival, OfBytes, Traffic, afterSaying, afterArrival, afterArrivals, codeOf, codeSeen, codeLeft, leftLast}
 use Rattle.gateway_rules.specs.Router.Claims.{opened, AllowanceTheorem}
-use Rattle.gateway_rules.proofs.Router.PassedLaws.{LedgerBy, ledger-by}
+use Rattle.gateway_rules.proofs.Router.CallLaws.{LedgerBy, ledger-by}
 use Rattle.gateway_rules.proofs.Router.HopLaws.{routed-changed}
 
 -- ---- the code that is left

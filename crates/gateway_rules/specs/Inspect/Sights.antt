@@ -1,10 +1,9 @@
 -- What a router and a receiver read of a packet before they decide: what its view shows, with the place of the option. Assumes nothing.
-use Prim.Native.Nat.{ℕ, _+_, _≤_}
+use Prim.Native.Nat.{ℕ}
 use mathlib.Core.List.{List}
 use mathlib.Core.Option.{Option, none, some}
 use Rattle.refusals.specs.Reply.{Reply, answer, andThen}
 use Rattle.wire_rules.specs.declared.Request.{Request}
-use Rattle.wire_rules.specs.Options.Wire.{optionLength}
 use Rattle.wire_rules.specs.declared.Place.{Place}
 use Rattle.wire_rules.specs.declared.Place.the-variants.{Nowhere, At}
 use Rattle.wire_rules.specs.Ipv4.Headers.{ipTtl}
@@ -13,11 +12,6 @@ use Rattle.wire_rules.specs.Ipv4.Views.{View, requestAt}
 use Rattle.gateway_rules.specs.declared.Asking.{Asking}
 use Rattle.gateway_rules.specs.declared.Asking.the-variants.{Nothing, For}
 use Rattle.gateway_rules.specs.declared.Seen.{Seen}
-
--- the option at a place, if there is one, lies within so many bytes
-abbrev pub Room : Place → ℕ → Type 0
-Room Nowhere bytes = Unit {0}
-Room (At place) bytes = place + optionLength ≤ bytes
 
 -- a request that stands at a place
 abbrev pub askingAt : Place → Option Request → Asking

@@ -24,7 +24,7 @@ callsBy setUp move ask = record {
   ask = λ link tick code. record { said = codeIn (ask link tick code); left = leaves link (linkIn (ask link tick code)) };
 }
 
--- ours: the contracts of `set_up`, `move_on` and `ask` cite these
+-- ours: the contracts of `ledger::set_up`, `move_on` and `ask` cite these
 abbrev pub ledgerCalls : Calls
 ledgerCalls = callsBy setUpReply moveReply askReply
 

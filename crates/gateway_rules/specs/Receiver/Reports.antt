@@ -1,4 +1,4 @@
--- What a receiver reports (document 01, "Router, receiver, sender"): the decision in numbers, and the response buffer afterwards. Assumes nothing.
+-- What a receiver reports (document 01, "Router, receiver, sender"): the decision in numbers, the response buffer afterwards, and whether it was written. Assumes nothing.
 use Prim.Native.Nat.{ℕ, min}
 use mathlib.Core.Bool.{Bool, _&&_}
 use mathlib.Core.List.{List}

@@ -4,7 +4,7 @@ use mathlib.Core.Option.{some}
 use Prim.Native.Nat.{ℕ}
 use native.Mathlib.Omega.{arith}
 use Rattle.path_rules.specs.declared.Router.the-variants.{Knowing}
-use Rattle.path_rules.proofs.Hops.RowLaws.{past-row, silent-front, other-front, cut-front, high-front, knowing-front}
+use Rattle.hops.proofs.RowLaws.{past-row, silent-front, other-front, cut-front, high-front, knowing-front}
 use borrow.Author.Needs.{needs}
 use Rattle.hops.proofs.router_at.Statement.{statement}
 use Rattle.hops.proofs.router_at.Tie as tie

@@ -8,7 +8,7 @@ use Rattle.path_rules.specs.declared.Summary.{Summary}
 use Rattle.path_rules.specs.Hops.Rows.{frontOf}
 use Rattle.hops.specs.Replies.{frontTold}
 use Rattle.hops.proofs.SurveyLaws.{Going, begins, fits-behind, goes-on, ends, ends-full}
-use Rattle.path_rules.proofs.Hops.JoinLaws.{routers-more}
+use Rattle.hops.proofs.JoinLaws.{routers-more}
 use borrow.Author.Needs.{needs}
 use Rattle.hops.proofs.survey.Statement.{statement}
 use Rattle.hops.proofs.survey.Tie as tie

@@ -2,7 +2,7 @@
 use mathlib.Core.Path.{sym}
 use native.Mathlib.Omega.{arith}
 use Rattle.common.proofs.Choice.{held, failed}
-use Rattle.path_rules.proofs.Hops.VerdictLaws.{ttl-out, code-out, ceiling-decides}
+use Rattle.hops.proofs.VerdictLaws.{ttl-out, code-out, ceiling-decides}
 use borrow.Author.Needs.{needs}
 use Rattle.hops.proofs.verdict_in_range.Statement.{statement}
 use Rattle.hops.proofs.verdict_in_range.Tie as tie

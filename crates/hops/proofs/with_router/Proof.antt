@@ -1,5 +1,5 @@
 -- `hops::with_router` meets its contract, by the kind of router. Assumes nothing.
-use Rattle.path_rules.proofs.Hops.JoinLaws.{with-knowing, with-silent}
+use Rattle.hops.proofs.JoinLaws.{with-knowing, with-silent}
 use borrow.Author.Needs.{needs}
 use Rattle.hops.proofs.with_router.Statement.{statement}
 use Rattle.hops.proofs.with_router.Tie as tie

@@ -2,7 +2,7 @@
 use mathlib.Core.Path.{sym, ap, _∙_}
 use Rattle.walk.specs.Replies.{findingTold}
 use Rattle.ipv4.specs.Replies.{ttlTold}
-use Rattle.gateway_rules.proofs.Inspect.SightLaws.{room-of, sight-refused, no-refusal, sight-of}
+use Rattle.inspect.proofs.SightLaws.{room-of, sight-refused, no-refusal, sight-of}
 use borrow.Author.Needs.{needs}
 use Rattle.inspect.proofs.look.Statement.{statement}
 use Rattle.inspect.proofs.look.Tie as tie

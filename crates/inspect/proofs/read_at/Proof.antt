@@ -3,7 +3,7 @@ use Prim.Native.Nat.{_+_, _≤_}
 use mathlib.Core.Path.{sym, ap, _∙_}
 use lib.ListN.{length}
 use Rattle.options.specs.Replies.{requestTold}
-use Rattle.gateway_rules.proofs.Inspect.SightLaws.{read-other, read-request}
+use Rattle.inspect.proofs.SightLaws.{read-other, read-request}
 use borrow.Author.Needs.{needs}
 use Rattle.inspect.proofs.read_at.Statement.{statement}
 use Rattle.inspect.proofs.read_at.Tie as tie

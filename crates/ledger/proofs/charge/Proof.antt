@@ -1,7 +1,8 @@
 -- `ledger::charge` meets its contract: a slot is at most the row's total, so that the sum fits. Assumes nothing.
 use native.Mathlib.Omega.{arith}
 use Rattle.gateway_rules.specs.Ledgers.Rows.{slotOf, charged}
-use Rattle.gateway_rules.proofs.Ledgers.RowLaws.{slot-lt, slot-most}
+use Rattle.gateway_rules.proofs.Ledgers.RowLaws.{slot-lt}
+use Rattle.ledger.proofs.RowLaws.{slot-most}
 use borrow.Author.Needs.{needs, scaled-fits}
 use Rattle.ledger.proofs.charge.Statement.{statement}
 use Rattle.ledger.proofs.charge.Tie as tie

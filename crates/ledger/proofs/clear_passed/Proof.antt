@@ -5,7 +5,8 @@ use mathlib.Core.Path.{_≡_, refl, sym, ap, _∙_}
 use native.Mathlib.Omega.{arith}
 use lib.ListN.{length, set, length-set}
 use Rattle.gateway_rules.specs.Ledgers.Rows.{passed, movedOn}
-use Rattle.gateway_rules.proofs.Ledgers.RowLaws.{slot-lt, passed-next, passed-all}
+use Rattle.gateway_rules.proofs.Ledgers.RowLaws.{slot-lt, passed-all}
+use Rattle.ledger.proofs.RowLaws.{passed-next}
 use borrow.Author.Needs.{needs, scaled-fits}
 use Rattle.ledger.proofs.clear_passed.Statement.{statement}
 use Rattle.ledger.proofs.clear_passed.Tie as tie

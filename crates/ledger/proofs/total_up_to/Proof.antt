@@ -5,7 +5,7 @@ use mathlib.Core.Path.{_≡_, ap}
 use native.Mathlib.Omega.{arith}
 use lib.ListN.{length, drop, drop-of-length-le}
 use Rattle.gateway_rules.specs.Ledgers.Rows.{total}
-use Rattle.gateway_rules.proofs.Ledgers.RowLaws.{total-from}
+use Rattle.ledger.proofs.RowLaws.{total-from}
 use borrow.Author.Needs.{needs}
 use Rattle.ledger.proofs.total_up_to.Statement.{statement}
 use Rattle.ledger.proofs.total_up_to.Tie as tie

@@ -3,7 +3,7 @@ use mathlib.Core.Path.{sym, ap, _∙_}
 use Rattle.receiver.specs.Replies.{receivedTold}
 use Rattle.sender_rules.specs.Sender.Calls.{transport}
 use Rattle.path_rules.specs.Path.Runs.{pathCalls}
-use Rattle.path_rules.proofs.Path.RunLaws.{not-received, not-answered, was-answered}
+use Rattle.path.proofs.RunLaws.{not-received, not-answered, was-answered}
 use borrow.Author.Needs.{needs}
 use Rattle.path.proofs.conclude.Statement.{statement}
 use Rattle.path.proofs.conclude.Tie as tie

@@ -1,7 +1,7 @@
 -- `path::look_first` meets its contract: what is seen of the packet, then the state. Assumes nothing.
 use mathlib.Core.Path.{sym, ap, _∙_}
 use Rattle.inspect.specs.Replies.{sightTold}
-use Rattle.path_rules.proofs.Path.RunLaws.{start-refused, start-seen}
+use Rattle.path.proofs.RunLaws.{start-refused, start-seen}
 use borrow.Author.Needs.{needs}
 use Rattle.path.proofs.look_first.Statement.{statement}
 use Rattle.path.proofs.look_first.Tie as tie

@@ -4,7 +4,7 @@ use Rattle.router.specs.Replies.{routedTold}
 use Rattle.path_rules.specs.Hops.Rows.{mostRouters, hopsFrom}
 use Rattle.sender_rules.specs.Sender.Calls.{transport}
 use Rattle.path_rules.specs.Path.Runs.{pathCalls}
-use Rattle.path_rules.proofs.Path.RunLaws.{run-lost, run-arrived}
+use Rattle.path.proofs.RunLaws.{run-lost, run-arrived}
 use borrow.Author.Needs.{needs}
 use Rattle.path.proofs.run_through.Statement.{statement}
 use Rattle.path.proofs.run_through.Tie as tie

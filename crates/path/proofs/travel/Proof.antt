@@ -7,7 +7,7 @@ use Rattle.router.specs.Replies.{routedTold}
 use Rattle.path_rules.specs.Hops.Rows.{frontOf}
 use Rattle.hops.specs.Replies.{frontTold}
 use Rattle.path_rules.specs.Path.Runs.{hop}
-use Rattle.path_rules.proofs.Path.RunLaws.{Underway, sets-out, at-end, at-limit, fits-behind, goes-on, ends-refused}
+use Rattle.path.proofs.RunLaws.{Underway, sets-out, at-end, at-limit, fits-behind, goes-on, ends-refused}
 use borrow.Author.Needs.{needs}
 use Rattle.path.proofs.travel.Statement.{statement}
 use Rattle.path.proofs.travel.Tie as tie

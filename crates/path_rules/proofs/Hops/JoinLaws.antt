@@ -1,5 +1,5 @@
--- Laws of joining summaries: two parts of a row, in whatever order and grouping, one router more, and what joining replies. Assumes nothing.
-use Prim.Native.Nat.{ℕ, _+_, _≤_, _<_, min}
+-- Laws of joining summaries: two parts of a row, in whatever order and grouping, and what joining replies. Assumes nothing.
+use Prim.Native.Nat.{_+_, _≤_, min}
 use mathlib.Core.Bool.{Bool, true, _&&_}
 use mathlib.Core.List.{List, [], _∷_, _++_, List·Permᴰ, List·Permᴰ·nil, List·Permᴰ·cons, List·Permᴰ·swap, List·Permᴰ·trans}
 use mathlib.Core.Logic.{_⊎_, inl, inr, ⊎-elim}
@@ -12,13 +12,11 @@ use Rattle.common.proofs.Choice.{by-test, chosen, either, both-true}
 use Rattle.refusals.specs.Reply.{Reply, answer, refuse, andThen}
 use Rattle.refusals.proofs.ReplyLaws.{answered}
 use Rattle.path_rules.specs.declared.Router.{Router}
-use Rattle.path_rules.specs.declared.Router.the-variants.{Knowing, Silent}
 use Rattle.path_rules.specs.declared.Summary.{Summary}
 use Rattle.path_rules.specs.Hops.Rows.{mostRouters}
-use Rattle.path_rules.specs.Hops.Summaries.{silentOnes, leastCeiling, summaryOf, summaryInRange, joined, joinReply}
-use Rattle.path_rules.specs.Hops.Parts.{one}
+use Rattle.path_rules.specs.Hops.Summaries.{summaryOf, summaryInRange, joined, joinReply}
 use Rattle.path_rules.specs.Hops.Claims.{numbers, Ranged}
-use Rattle.path_rules.proofs.Hops.SummaryLaws.{same-summary, sum-nobody, silent-append, least-append, ranged-tested, ranged-suffices}
+use Rattle.path_rules.proofs.Hops.SummaryLaws.{same-summary, silent-append, least-append, ranged-tested, ranged-suffices}
 
 -- ---- two parts
 
@@ -35,7 +33,7 @@ unfolding joined
 turned a b = same-summary _ _ (omega arith) (omega arith) (omega arith)
 
 -- a router more is its own summary joined; so the order of the routers does not matter
-one-more : (x : Router) (l : List Router) → summaryOf (x ∷ l) ≡ joined (one x) (summaryOf l)
+pub one-more : (x : Router) (l : List Router) → summaryOf (x ∷ l) ≡ joined (summaryOf (x ∷ [])) (summaryOf l)
 one-more x l = sym (sum-parts (x ∷ []) l)
 
 swapped-two : (x y : Router) (l : List Router) → summaryOf (x ∷ y ∷ l) ≡ summaryOf (y ∷ x ∷ l)
@@ -51,37 +49,6 @@ sum-order a b (List·Permᴰ·cons {a = x} {b = y} {l₁ = l} {l₂ = m} e p) =
     one-more x l ∙ (cc) ∙ sym (one-more y m)
 sum-order a b (List·Permᴰ·swap {a = x} {b = y} {a′ = x′} {b′ = y′} {l = l} e f) = cc (swapped-two x y l)
 sum-order a b (List·Permᴰ·trans {l₂ = m} p q) = sum-order a m p ∙ sum-order m b q
-
--- ---- a summary with one router more, and beside what is left of a row
-
-pub with-knowing : (s : Summary) (ceiling fresh least : ℕ) → s .least ≤ 15 → least ≡ min (s .least) ceiling
-    → record { routers = s .routers + 1; silent = s .silent; least = least } ≡ joined s (one (Knowing ceiling fresh))
-unfolding joined summaryOf silentOnes leastCeiling
-with-knowing s ceiling fresh least h e = same-summary _ _ (omega arith) (omega arith) (omega arith)
-
-pub with-silent : (s : Summary) → s .least ≤ 15 → record { routers = s .routers + 1; silent = s .silent + 1; least = s .least } ≡ joined s (one Silent)
-unfolding joined summaryOf silentOnes leastCeiling
-with-silent s h = same-summary _ _ (omega arith) (omega arith) (omega arith)
-
-pub joined-nobody : (rest : List Router) → joined (numbers 0 0 15) (summaryOf rest) ≡ summaryOf rest
-joined-nobody rest = ap (λ (s : Summary). joined s (summaryOf rest)) (sym sum-nobody) ∙ sum-parts [] rest
-
-pub joined-one : (s : Summary) (router : Router) (rest : List Router) → joined s (summaryOf (router ∷ rest)) ≡ joined (joined s (one router)) (summaryOf rest)
-joined-one s router rest = ap (joined s) (one-more router rest) ∙ sym (grouped s (one router) (summaryOf rest))
-
--- nothing left
-pub joined-last : (s : Summary) → s .least ≤ 15 → joined s (summaryOf []) ≡ s
-unfolding joined summaryOf silentOnes leastCeiling
-joined-last s h = same-summary _ _ (omega arith) (omega arith) (omega arith)
-
-pub routers-more : (s : Summary) (router : Router) → joined s (one router) .routers ≡ s .routers + 1
-unfolding joined summaryOf
-routers-more s router = omega arith
-
-pub ranged-more : (s : Summary) (router : Router) → Ranged s → s .routers < 64 → Ranged (joined s (one router))
-unfolding joined summaryOf silentOnes leastCeiling
-ranged-more s (Knowing ceiling fresh) r h = record { routers-high = omega arith; silent-high = omega arith; least-high = omega arith }
-ranged-more s Silent r h = record { routers-high = omega arith; silent-high = omega arith; least-high = omega arith }
 
 -- ---- what joining replies
 

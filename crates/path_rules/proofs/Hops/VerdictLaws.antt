@@ -1,13 +1,13 @@
 -- Laws of a summary's verdict: its ranges, its tests one after the other, and that two calls that judge so judge alike. Assumes nothing.
 use Prim.Native.Nat.{ℕ, _≤_, _<_, min}
-use mathlib.Core.Bool.{Bool, true, false, _&&_}
+use mathlib.Core.Bool.{true, _&&_}
 use mathlib.Core.Logic.{⊎-elim}
 use mathlib.Core.Path.{_≡_, refl, sym, ap, _∙_}
 use native.Mathlib.Omega.{arith}
 use borrow.Author.Tests.{le-leb, lt-leb, leb-true, lt-ltb, le-ltb, eq-eqb, ne-eqb}
 use lib.Dec.{leb}
 use Rattle.common.specs.Choice.{within}
-use Rattle.common.proofs.Choice.{by-test, chosen, either, both-true, in-within, not-within, within-low, within-high, le-or-gt}
+use Rattle.common.proofs.Choice.{by-test, chosen, either, both-true, in-within, within-low, within-high, le-or-gt}
 use Rattle.refusals.specs.Reply.{Reply, answer, refuse}
 use Rattle.wire_rules.specs.Rates.Steps.{topCode}
 use Rattle.path_rules.specs.declared.Summary.{Summary}
@@ -15,25 +15,6 @@ use Rattle.path_rules.specs.Hops.Summaries.{summaryInRange}
 use Rattle.path_rules.specs.Hops.Verdicts.{Verdict, lost, unanswered, notAccepted, accepted, leastOf, verdictOf, verdictInRange, verdictReply}
 use Rattle.path_rules.specs.Hops.Claims.{VerdictGiven, Judge, Judging}
 use Rattle.path_rules.proofs.Hops.SummaryLaws.{ranged-tested, ranged-suffices}
-
--- ---- ranges
-
-module _ (ttl code ceiling : ℕ) where
-  pub ttl-out : ttl ≡ 0 → verdictInRange ttl code ceiling ≡ false
-  unfolding verdictInRange
-  ttl-out e = simp (not-within 1 ttl 255 (λ h. absurd (omega (arith, h .0))))
-
-  pub code-out : within 1 code topCode ≡ false → verdictInRange ttl code ceiling ≡ false
-  unfolding verdictInRange
-  code-out e = go (within 1 ttl 255)
-    where
-      go : (t : Bool) → (t && within 1 code topCode && leb ceiling topCode) ≡ false
-      go true = simp e
-      go false = refl
-
-  pub ceiling-decides : 1 ≤ ttl → ttl ≤ 255 → within 1 code topCode ≡ true → verdictInRange ttl code ceiling ≡ leb ceiling topCode
-  unfolding verdictInRange
-  ceiling-decides l h e = simp (in-within 1 ttl 255 l h, e)
 
 -- ---- verdicts
 

@@ -24,7 +24,7 @@ use Rattle.path_rules.proofs.Plan.DecimalLaws.{few-digits, digits, same
 use Rattle.path_rules.proofs.Plan.FormatLaws.{only}
 use Rattle.path_rules.proofs.Plan.EnoughLaws.{furthest}
 use Rattle.path_rules.proofs.Plan.SpellingLaws.{spelling}
-use Rattle.path_rules.proofs.Plan.RunPathLaws.{demanded}
+use Rattle.path_rules.proofs.Plan.GivenLaws.{demanded}
 
 -- ---- the words
 

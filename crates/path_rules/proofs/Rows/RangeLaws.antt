@@ -1,4 +1,4 @@
--- What the test of a hop says. Assumes nothing.
+-- A hop that passes its test is in range. Assumes nothing.
 use Prim.Native.Nat.{_≤_, _<_}
 use mathlib.Core.Bool.{true}
 use mathlib.Core.Path.{_≡_}

@@ -7,7 +7,7 @@ use Rattle.sender_rules.specs.Connections.Records.{freshWith}
 use Rattle.sender_rules.specs.Sender.Calls.{Wish, wish, Sending}
 use Rattle.path_rules.specs.Hops.Verdicts.{Verdict, lost, unanswered, notAccepted, accepted}
 use Rattle.path_rules.specs.Path.Runs.{pathCalls, blank}
-use Rattle.path_rules.specs.Path.Own.{window, ssthresh, roundTrip, ownTransport}
+use Rattle.path_rules.specs.Path.OwnSender.{window, ssthresh, roundTrip, ownTransport}
 use Rattle.path_rules.specs.Path.Demands.{Setting, verdictBy, plain}
 use Rattle.path_rules.specs.Plan.Records.{Plan, Reading, good, bad, readPlan}
 

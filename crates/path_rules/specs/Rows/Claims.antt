@@ -22,7 +22,7 @@ use Rattle.path_rules.specs.Hops.Claims.{Spells, RoutersInRange, spelled
 use Rattle.path_rules.specs.Path.Runs.{pathCalls, Journey, journey, runCall}
 use Rattle.path_rules.specs.Path.Demands.{Setting, verdictBy}
 use Rattle.path_rules.specs.Path.Claims.{Demanded, Passable, leastAlong}
-use Rattle.path_rules.specs.Path.Own.{ownTransport}
+use Rattle.path_rules.specs.Path.OwnSender.{ownTransport}
 use Rattle.path_rules.specs.declared.Hop.{Hop}
 use Rattle.path_rules.specs.Rows.Rows.{routersOf, hopsRow, hopsSummary, hopsCall}
 use Rattle.path_rules.specs.Rows.Results.{summaryLent, summaryResult, openFor, verdictResult}

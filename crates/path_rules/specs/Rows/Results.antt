@@ -11,7 +11,7 @@ use Rattle.sender_rules.specs.declared.Connection.{Connection}
 use Rattle.sender_rules.specs.Connections.Records.{freshWith, withState}
 use Rattle.path_rules.specs.declared.Summary.{Summary}
 use Rattle.path_rules.specs.Hops.Verdicts.{Verdict, lost, unanswered, notAccepted, accepted}
-use Rattle.path_rules.specs.Path.Own.{window, ssthresh}
+use Rattle.path_rules.specs.Path.OwnSender.{window, ssthresh}
 
 -- ---- the summary of a row
 

@@ -6,8 +6,7 @@ use Rattle.path_rules.specs.Hops.Rows.{mostRouters}
 use Rattle.hops.specs.Replies.{verdictTold, verdictAnswerTold}
 use Rattle.path_rules.specs.Plan.Records.{hopsOf, planOf}
 use Rattle.path_rules.specs.Plan.Lines.{verdictFor, verdictLine}
-use Rattle.path_rules.proofs.Plan.RunPathLaws.{same-run, read-said}
-use Rattle.plan.proofs.AnswerLaws.{never-refused}
+use Rattle.plan.proofs.RunPathLaws.{same-run, read-said, never-refused}
 use borrow.Author.Needs.{needs}
 use Rattle.plan.proofs.good_line.Statement.{statement}
 use Rattle.plan.proofs.good_line.Tie as tie

@@ -10,7 +10,7 @@ use Rattle.path_rules.specs.Plan.Records.{startsRequest, hopsOf}
 use Rattle.path_rules.specs.Plan.Lines.{lineFor, lineOf}
 use Rattle.path_rules.proofs.Plan.InputLaws.{request-parts}
 use Rattle.plan.proofs.TextLaws.{text-length}
-use Rattle.path_rules.proofs.Plan.ReadLaws.{surveyed, end-near, bad-request, bad-receiver, bad-end, good-plan}
+use Rattle.plan.proofs.ReadLaws.{surveyed, end-near, bad-request, bad-receiver, bad-end, good-plan}
 use borrow.Author.Needs.{needs}
 use Rattle.plan.proofs.line.Statement.{statement}
 use Rattle.plan.proofs.line.Tie as tie

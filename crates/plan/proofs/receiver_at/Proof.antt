@@ -3,7 +3,7 @@ use Prim.Native.Nat.{ℕ}
 use mathlib.Core.Path.{ap, _∙_}
 use lib.Dec.{leb}
 use Rattle.wire_rules.specs.Rates.Steps.{topCode}
-use Rattle.path_rules.proofs.Plan.InputLaws.{receiver-short, receiver-other, receiver-by-ceiling}
+use Rattle.plan.proofs.InputLaws.{receiver-short, receiver-other, receiver-by-ceiling}
 use borrow.Author.Needs.{needs}
 use Rattle.plan.proofs.receiver_at.Statement.{statement}
 use Rattle.plan.proofs.receiver_at.Tie as tie

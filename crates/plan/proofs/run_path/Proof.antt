@@ -1,6 +1,6 @@
 -- `plan::run_path` meets its contract: each call is given what the one before it left. Assumes nothing.
 use mathlib.Core.Path.{_∙_}
-use Rattle.path_rules.proofs.Plan.RunPathLaws.{said-by}
+use Rattle.plan.proofs.RunPathLaws.{said-by}
 use borrow.Author.Needs.{needs}
 use Rattle.plan.proofs.run_path.Statement.{statement}
 use Rattle.plan.proofs.run_path.Tie as tie

@@ -2,7 +2,8 @@
 use mathlib.Core.Path.{sym}
 use native.Mathlib.Omega.{arith}
 use Rattle.common.proofs.Choice.{untrue}
-use Rattle.path_rules.proofs.Plan.InputLaws.{request-parts, request-by-ttl}
+use Rattle.path_rules.proofs.Plan.InputLaws.{request-parts}
+use Rattle.plan.proofs.InputLaws.{request-by-ttl}
 use borrow.Author.Needs.{needs}
 use Rattle.plan.proofs.starts_request.Statement.{statement}
 use Rattle.plan.proofs.starts_request.Tie as tie

@@ -1,6 +1,6 @@
 -- `rates::round_down` meets its contract: the place of the highest set digit of bits / 40,000 is the code, up to the highest. Assumes nothing.
 use native.Mathlib.Omega.{arith}
-use Rattle.wire_rules.proofs.Rates.StepLaws.{down-none, down-by-zeros}
+use Rattle.rates.proofs.StepLaws.{down-none, down-by-zeros}
 use Rattle.rates.proofs.round_down.Statement.{statement}
 use Rattle.rates.proofs.round_down.Tie as tie
 

@@ -5,7 +5,7 @@ use mathlib.Core.Path.{_≡_, refl, ap, _∙_}
 use borrow.Author.Tests.{le-leb}
 use Rattle.refusals.specs.Reply.{answer}
 use Rattle.wire_rules.specs.Rates.Steps.{topCode, roundedDown, roundedUp, roundedUpReply}
-use Rattle.wire_rules.proofs.Rates.StepLaws.{up-by-down}
+use Rattle.rates.proofs.StepLaws.{up-by-down}
 use borrow.Author.Needs.{needs}
 use Rattle.rates.proofs.round_up.Statement.{statement}
 use Rattle.rates.proofs.round_up.Tie as tie

@@ -1,7 +1,7 @@
 -- `rates::window_bytes` meets its contract: it passes the reply in segments on, times the segment size. Assumes nothing.
 use mathlib.Core.Path.{sym, ap, _∙_}
 use Rattle.rates.specs.Replies.{windowTold}
-use Rattle.wire_rules.proofs.Rates.WindowLaws.{bytes-answered, bytes-refused}
+use Rattle.rates.proofs.WindowLaws.{bytes-answered, bytes-refused}
 use borrow.Author.Needs.{needs}
 use Rattle.rates.proofs.window_bytes.Statement.{statement}
 use Rattle.rates.proofs.window_bytes.Tie as tie

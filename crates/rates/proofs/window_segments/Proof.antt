@@ -8,7 +8,8 @@ use Rattle.common.proofs.Choice.{within-high, held, failed}
 use Rattle.wire_rules.specs.Rates.Steps.{topCode}
 use Rattle.wire_rules.specs.Rates.Window.{transportInRange, windowSegments}
 use Rattle.wire_rules.proofs.Rates.StepLaws.{power-small}
-use Rattle.wire_rules.proofs.Rates.WindowLaws.{Transport, transport-facts, sent-fits}
+use Rattle.wire_rules.proofs.Rates.WindowLaws.{Transport, transport-facts}
+use Rattle.rates.proofs.WindowLaws.{sent-fits}
 use borrow.Author.Needs.{needs}
 use Rattle.rates.proofs.window_segments.Statement.{statement}
 use Rattle.rates.proofs.window_segments.Tie as tie

@@ -5,7 +5,8 @@ use lib.ListN.{length}
 use Rattle.common.proofs.Choice.{held, failed}
 use Rattle.inspect.specs.Replies.{sightTold}
 use Rattle.gateway_rules.specs.Receiver.Reports.{receiverInRange, responseAfter, reactionIn}
-use Rattle.gateway_rules.proofs.Receiver.ReportLaws.{received-seven, received-refused, received-seen}
+use Rattle.gateway_rules.proofs.Receiver.ReportLaws.{received-seven}
+use Rattle.receiver.proofs.ReportLaws.{received-refused, received-seen}
 use borrow.Author.Needs.{needs}
 use Rattle.receiver.proofs.receiver.Statement.{statement}
 use Rattle.receiver.proofs.receiver.Tie as tie

@@ -2,7 +2,8 @@
 use mathlib.Core.Path.{sym, ap, _∙_}
 use Rattle.refusals.specs.Reply.{answer}
 use Rattle.gateway_rules.specs.Receiver.Reports.{Report, responseAfter, reactionTo}
-use Rattle.gateway_rules.proofs.Receiver.ReportLaws.{no-report, report-by}
+use Rattle.gateway_rules.proofs.Receiver.ReportLaws.{no-report}
+use Rattle.receiver.proofs.ReportLaws.{report-by}
 use borrow.Author.Needs.{needs}
 use Rattle.receiver.proofs.respond.Statement.{statement}
 use Rattle.receiver.proofs.respond.Tie as tie

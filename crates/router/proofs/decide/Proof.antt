@@ -2,7 +2,8 @@
 use mathlib.Core.Path.{sym, ap, _∙_}
 use native.Mathlib.Omega.{arith}
 use Rattle.options.specs.Replies.{nonceTold}
-use Rattle.gateway_rules.proofs.Router.DecisionLaws.{nothing-decided, denied, never-refused, approved-by}
+use Rattle.gateway_rules.proofs.Router.DecisionLaws.{nothing-decided, denied}
+use Rattle.router.proofs.DecisionLaws.{never-refused, approved-by}
 use borrow.Author.Needs.{needs}
 use Rattle.router.proofs.decide.Statement.{statement}
 use Rattle.router.proofs.decide.Tie as tie

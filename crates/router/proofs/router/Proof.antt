@@ -8,7 +8,7 @@ use Rattle.gateway_rules.specs.Router.Routers.{routerInRange}
 use Rattle.router.specs.Parts.{met}
 use Rattle.router.specs.Replies.{metTold}
 use Rattle.router.proofs.RouterLaws.{routed-refused, routed-met}
-use Rattle.gateway_rules.proofs.Router.PassedLaws.{routed-seven}
+use Rattle.gateway_rules.proofs.Router.CallLaws.{routed-seven}
 use borrow.Author.Needs.{needs}
 use Rattle.router.proofs.router.Statement.{statement}
 use Rattle.router.proofs.router.Tie as tie

@@ -51,7 +51,7 @@ use Rattle.path.specs.declared.Ran.{Ran}
 use Rattle.path_rules.specs.Path.Runs.{Journey, journey, callOver}
 use Rattle.path.proofs.Ran as R
 use Rattle.path.proofs.Ran.Laws as R′
-use Rattle.path_rules.specs.Path.Own.{roundTrip, segment, headers, ownTransport}
+use Rattle.path_rules.specs.Path.OwnSender.{roundTrip, segment, headers, ownTransport}
 use Rattle.path_rules.specs.declared.Hop.{Hop}
 use Rattle.path_rules.specs.Rows.Rows.{hopsRow}
 use Rattle.path_rules.specs.Rows.Results.{openFor, verdictResult}

@@ -4,7 +4,7 @@ use borrow.Author.Tests.{lt-ltb, le-ltb}
 use Rattle.common.proofs.Choice.{held, failed, in-within}
 use Rattle.wire_rules.specs.Options.Wire.{nonceLimit}
 use Rattle.sender_rules.specs.Sender.Calls.{askInRange}
-use Rattle.sender_rules.proofs.Sender.CallLaws.{ttl-out}
+use Rattle.sender.proofs.CallLaws.{ttl-out}
 use borrow.Author.Needs.{needs}
 use Rattle.sender.proofs.ask_in_range.Statement.{statement}
 use Rattle.sender.proofs.ask_in_range.Tie as tie

@@ -5,7 +5,8 @@ use Rattle.wire_rules.specs.Rates.Window.{windowBytes}
 use Rattle.sender_rules.specs.declared.Connection.{Connection}
 use Rattle.sender_rules.specs.Connections.Records.{withWindow}
 use Rattle.sender_rules.specs.Sender.Calls.{granted}
-use Rattle.sender_rules.proofs.Sender.CallLaws.{window-told, window-refused, not-above, above}
+use Rattle.sender_rules.proofs.Sender.CallLaws.{not-above, above}
+use Rattle.sender.proofs.CallLaws.{window-told, window-refused}
 use borrow.Author.Needs.{needs}
 use Rattle.sender.proofs.grant.Statement.{statement}
 use Rattle.sender.proofs.grant.Tie as tie

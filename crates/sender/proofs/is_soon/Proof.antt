@@ -1,7 +1,7 @@
 -- `sender::is_soon` meets its contract: a time before the last request is less than a round trip after it, too. Assumes nothing.
 use mathlib.Core.Path.{refl}
 use Rattle.sender_rules.specs.Sender.Calls.{isSoon}
-use Rattle.sender_rules.proofs.Sender.CallLaws.{soon-before, soon-after}
+use Rattle.sender.proofs.CallLaws.{soon-before, soon-after}
 use borrow.Author.Needs.{needs}
 use Rattle.sender.proofs.is_soon.Statement.{statement}
 use Rattle.sender.proofs.is_soon.Tie as tie

@@ -2,7 +2,8 @@
 use mathlib.Core.Path.{sym, ap, _∙_}
 use Rattle.common.proofs.Choice.{held, failed}
 use Rattle.options.specs.Replies.{agreementTold}
-use Rattle.sender_rules.proofs.Sender.CallLaws.{rate-wrong, diff-wrong, nonce-same, nonce-other, nonce-refused}
+use Rattle.sender_rules.proofs.Sender.CallLaws.{rate-wrong, diff-wrong}
+use Rattle.sender.proofs.CallLaws.{nonce-same, nonce-other, nonce-refused}
 use borrow.Author.Needs.{needs}
 use Rattle.sender.proofs.judge.Statement.{statement}
 use Rattle.sender.proofs.judge.Tie as tie

@@ -3,7 +3,7 @@ use mathlib.Core.Path.{_≡_, sym, ap, _∙_}
 use Rattle.refusals.specs.Reply.{answer}
 use Rattle.sender_rules.specs.Sender.Calls.{transport, judged, afterResponse}
 use Rattle.sender.specs.Replies.{judgementTold}
-use Rattle.sender_rules.proofs.Sender.CallLaws.{fits-top, ended}
+use Rattle.sender.proofs.CallLaws.{fits-top, ended}
 use borrow.Author.Needs.{needs}
 use Rattle.sender.proofs.settle.Statement.{statement}
 use Rattle.sender.proofs.settle.Tie as tie

@@ -3,7 +3,8 @@ use mathlib.Core.Path.{ap, _∙_}
 use Rattle.common.specs.Choice.{within}
 use Rattle.common.proofs.Choice.{held, failed}
 use Rattle.sender_rules.specs.Sender.Calls.{transport, afterResponse}
-use Rattle.sender_rules.proofs.Sender.CallLaws.{response-out, response-transport-out, response-length-out, response-in, asked-in}
+use Rattle.sender_rules.proofs.Sender.CallLaws.{response-out, response-transport-out, response-length-out, response-in}
+use Rattle.sender.proofs.CallLaws.{asked-in}
 use borrow.Author.Needs.{needs}
 use Rattle.sender.proofs.take_response.Statement.{statement}
 use Rattle.sender.proofs.take_response.Tie as tie

@@ -3,7 +3,7 @@ use mathlib.Core.Path.{sym, ap, _∙_}
 use native.Mathlib.Omega.{arith}
 use Rattle.options.specs.Replies.{responseTold}
 use Rattle.sender_rules.specs.Sender.Calls.{transport, afterResponse}
-use Rattle.sender_rules.proofs.Sender.CallLaws.{read-nonce, taken-not, taken-read}
+use Rattle.sender.proofs.CallLaws.{read-nonce, taken-not, taken-read}
 use borrow.Author.Needs.{needs}
 use Rattle.sender.proofs.take_while_asked.Statement.{statement}
 use Rattle.sender.proofs.take_while_asked.Tie as tie

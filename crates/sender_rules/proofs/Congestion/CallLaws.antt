@@ -4,25 +4,14 @@ use mathlib.Core.Bool.{Bool, true, false}
 use mathlib.Core.Path.{_≡_}
 use borrow.Author.Tests.{le-leb, lt-leb}
 use Rattle.common.specs.Choice.{within}
-use Rattle.common.proofs.Choice.{both-true, within-high}
 use Rattle.refusals.specs.Reply.{answer, refuse}
-use Rattle.wire_rules.specs.Rates.Window.{longestRtt, largestSegment}
+use Rattle.wire_rules.specs.Rates.Window.{largestSegment}
 use Rattle.sender_rules.specs.declared.Sample.{Sample}
 use Rattle.sender_rules.specs.declared.Connection.{Connection}
-use Rattle.sender_rules.specs.Connections.Records.{mostBytes, mostSamples, inRange}
-use Rattle.sender_rules.proofs.Connections.RecordLaws.{sound}
+use Rattle.sender_rules.specs.Connections.Records.{mostBytes, inRange}
 use Rattle.sender_rules.specs.Congestion.Echoes.{isAhead}
-use Rattle.sender_rules.specs.Congestion.Phases.{largestInitial, isEarly, sampled, phaseInRange, isValidated}
+use Rattle.sender_rules.specs.Congestion.Phases.{isEarly, sampled, phaseInRange, isValidated}
 use Rattle.sender_rules.specs.Congestion.Calls.{echoReply, sampleReply, phaseReply}
-
--- what is known of a record in range
-pub ranges : (c : Connection) → inRange c ≡ true → (c .window ≤ mostBytes) × (c .count ≤ mostSamples)
-ranges c e = let s = sound c e in (s .window-high, s .count-high)
-
--- what is known of a round trip in range
-pub round-trip : (rtt initial : ℕ) → phaseInRange rtt initial ≡ true → rtt ≤ longestRtt
-unfolding phaseInRange
-round-trip rtt initial e = within-high 1 rtt longestRtt (both-true (within 1 rtt longestRtt) (within 1 initial largestInitial) e .0)
 
 module _ (c : Connection) where
   -- ---- an echo

@@ -23,7 +23,7 @@ use Rattle.sender_rules.specs.Congestion.Calls.{phaseReply, afterPhase, 
 use Rattle.sender_rules.specs.Congestion.Claims.{InTime, PhaseGiven, PipeAckIs, halfOf, lowerAgain, Phases}
 use Rattle.sender_rules.proofs.Congestion.CallLaws.{phase-early, phase-said}
 use Rattle.sender_rules.proofs.Congestion.PhaseLaws.{period-over, period-on}
-use Rattle.sender_rules.proofs.Congestion.PipeClaims.{Known, known, is-undefined, is-bytes}
+use Rattle.sender_rules.proofs.Congestion.PipeLaws.{Known, known, is-undefined, is-bytes}
 use Rattle.sender_rules.proofs.Congestion.SampleClaims.{in-time, early-newest, early-start, When, fine, newer, started, when}
 
 -- ---- ranges

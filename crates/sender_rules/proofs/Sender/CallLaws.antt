@@ -1,34 +1,28 @@
--- Laws of the sender's calls, by the tests and the callees' answers that lead to each reply. Assumes nothing.
-use Prim.Native.Nat.{ℕ, _+_, _-_, _≤_, _<_, min, max}
+-- Laws of the sender's calls, by the tests that lead to each reply. Assumes nothing.
+use Prim.Native.Nat.{ℕ, _-_, _≤_, _<_, min, max}
 use mathlib.Core.Bool.{Bool, true, false, _&&_}
 use mathlib.Core.List.{List}
-use mathlib.Core.Logic.{⊎-elim}
 use lib.Dec.{leb, ltb, eqb}
-use mathlib.Core.Path.{_≡_, refl, sym, ap, subst, _∙_}
-use native.Mathlib.Omega.{arith}
+use mathlib.Core.Path.{_≡_, refl, sym, ap, _∙_}
 use borrow.Author.Tests.{le-leb, lt-leb, lt-ltb, le-ltb, eq-eqb, ne-eqb, ltb-true, eqb-true}
 use lib.ListN.{length}
 use Rattle.common.specs.Choice.{pick, within}
-use Rattle.common.specs.Lists.{Bytes}
-use Rattle.common.proofs.Choice.{clash, chosen, both-true, within-low, within-high, in-within, le-or-gt}
+use Rattle.common.proofs.Choice.{clash, chosen, both-true, within-low, within-high}
 use Rattle.refusals.specs.Reply.{Reply, answer, refuse, leaves, andThen}
-use Rattle.refusals.proofs.ReplyLaws.{same-answer, passed, refused}
+use Rattle.refusals.proofs.ReplyLaws.{same-answer, passed}
 use Rattle.wire_rules.specs.Rates.Steps.{topCode}
-use Rattle.wire_rules.specs.Rates.Window.{longestRtt, transportInRange, windowBytes, bytesReply}
+use Rattle.wire_rules.specs.Rates.Window.{longestRtt, transportInRange}
 use Rattle.wire_rules.specs.declared.Response.{Response}
-use Rattle.wire_rules.specs.Options.Wire.{optionLength, nonceLimit, rateIn, ttlIn, nonceIn}
-use Rattle.wire_rules.specs.Options.Nonces.{agree, agreeReply}
+use Rattle.wire_rules.specs.Options.Wire.{optionLength, nonceLimit}
+use Rattle.wire_rules.specs.Options.Nonces.{agree}
 use Rattle.wire_rules.specs.Options.Requests.{requestWritten}
-use Rattle.wire_rules.specs.Options.Responses.{isResponse, responseRead}
 use Rattle.wire_rules.proofs.Options.Claims.{requestRoundTrip}
-use Rattle.wire_rules.proofs.Options.WireLaws.{word-small}
 use Rattle.sender_rules.specs.declared.OpenRequest.{OpenRequest}
 use Rattle.sender_rules.specs.declared.State.{State}
-use Rattle.sender_rules.specs.declared.State.the-variants.{Idle, Asked, Quick}
+use Rattle.sender_rules.specs.declared.State.the-variants.{Idle, Quick}
 use Rattle.sender_rules.specs.declared.Connection.{Connection}
-use Rattle.sender_rules.specs.Connections.Records.{mostBytes, stateInRange, isBefore, inRange, withState, withWindow}
-use Rattle.sender_rules.proofs.Connections.RecordLaws.{sound, asked-ranges}
-use Rattle.sender_rules.specs.Sender.Calls.{Wish, Transport, sending, askInRange, isBusy, isSoon, asked, askReply, whileAsked, whileQuick, judged, taken, responseReply, granted, afterResponse, acknowledgedReply, lossReply, giveUpReply}
+use Rattle.sender_rules.specs.Connections.Records.{mostBytes, isBefore, inRange, withState, withWindow}
+use Rattle.sender_rules.specs.Sender.Calls.{Wish, Transport, sending, askInRange, isBusy, isSoon, asked, askReply, whileAsked, whileQuick, judged, taken, responseReply, granted, acknowledgedReply, lossReply, giveUpReply}
 
 -- ---- a response judged by the open request
 
@@ -47,33 +41,7 @@ module _ (q : OpenRequest) (r : Response) where
       unfolding judged
       judged-by t n = simp (e, eq-eqb (r .«ttl_diff») (q .«ttl_diff») d, n)
 
-      module _ (top : q .code ≤ topCode) (a : q .nonce < nonceLimit) (b : r .nonce < nonceLimit) where
-        agreeing : agreeReply (r .rate) (q .nonce) (r .nonce) ≡ answer (agree (r .rate) (q .nonce) (r .nonce))
-        agreeing =
-            let high : r .rate ≤ q .code = within-high 1 (r .rate) (q .code) e in
-            let most : r .rate ≤ topCode = omega arith in
-            simp (le-leb (r .rate) topCode most, lt-ltb (q .nonce) nonceLimit a, lt-ltb (r .nonce) nonceLimit b)
-
-        pub nonce-same : answer true ≡ agreeReply (r .rate) (q .nonce) (r .nonce) → answer (r .rate) ≡ judged q r
-        nonce-same f = judged-by true (sym (same-answer (f ∙ agreeing)))
-
-        pub nonce-other : answer false ≡ agreeReply (r .rate) (q .nonce) (r .nonce) → refuse 15 ≡ judged q r
-        nonce-other f = judged-by false (sym (same-answer (f ∙ agreeing)))
-
-        pub nonce-refused : (n : ℕ) → refuse n ≡ agreeReply (r .rate) (q .nonce) (r .nonce) → ⊥
-        nonce-refused n f = let g = f ∙ agreeing in clash (cc)
-
 -- ---- an accepted rate
-
-module _ (rate rtt mss headers : ℕ) (e : within 1 rate topCode ≡ true) (f : transportInRange rtt mss headers ≡ true) where
-  window-is : bytesReply rate rtt mss headers ≡ answer (windowBytes rate rtt mss headers)
-  window-is = simp (e, f)
-
-  pub window-told : (window : ℕ) → answer window ≡ bytesReply rate rtt mss headers → window ≡ windowBytes rate rtt mss headers
-  window-told window g = same-answer (g ∙ window-is)
-
-  pub window-refused : (n : ℕ) → refuse n ≡ bytesReply rate rtt mss headers → ⊥
-  window-refused n g = let h = g ∙ window-is in clash (cc)
 
 module _ (c : Connection) (window : ℕ) where
   pub not-above : window ≤ c .window → withState c Idle ≡ granted c window
@@ -83,22 +51,6 @@ module _ (c : Connection) (window : ℕ) where
   pub above : c .window < window → withWindow (withState c (Quick (record { window = c .window }))) window ≡ granted c window
   unfolding granted
   above h = simp (lt-ltb (c .window) window h)
-
--- ---- asking
-
-pub ttl-out : (ttl : ℕ) → ttl ≡ 0 → within 1 ttl 255 ≡ false
-unfolding within
-ttl-out ttl e = let h : ttl < 1 = omega arith in simp (lt-leb 1 ttl h)
-
-pub soon-before : (time last rtt : ℕ) → time < last → true ≡ ltb time (last + rtt)
-soon-before time last rtt h = let l : time < last + rtt = omega arith in sym (lt-ltb time (last + rtt) l)
-
-pub soon-after : (time last rtt : ℕ) → last ≤ time → ltb (time - last) rtt ≡ ltb time (last + rtt)
-soon-after time last rtt h =
-    ⊎-elim
-    (λ (l : last + rtt ≤ time). let m : rtt ≤ time - last = omega arith in le-ltb (time - last) rtt m ∙ sym (le-ltb time (last + rtt) l))
-    (λ (g : time < last + rtt). let m : time - last < rtt = omega arith in lt-ltb (time - last) rtt m ∙ sym (lt-ltb time (last + rtt) g))
-    (le-or-gt (last + rtt) time)
 
 -- ---- what was judged
 
@@ -112,12 +64,6 @@ module _ (q : OpenRequest) (r : Response) where
       let t = passed (agree (r .rate) (q .nonce) (r .nonce)) n _ 15 (s .1) in
       (same-answer (t .1), p .0)
 
-  pub fits-top : (n : ℕ) → q .code ≤ topCode → answer n ≡ judged q r → within 1 (r .rate) topCode ≡ true
-  fits-top n top e =
-      let w = fits-within n e .1 in
-      let high : r .rate ≤ q .code = within-high 1 (r .rate) (q .code) w in
-      in-within 1 (r .rate) topCode (within-low 1 (r .rate) (q .code) w) (omega arith)
-
   -- each of its refusals ends the request
   pub ends : (n : ℕ) → refuse n ≡ judged q r → within 13 n 15 ≡ true
   unfolding judged within
@@ -128,9 +74,6 @@ module _ (q : OpenRequest) (r : Response) where
       by-judgement true true false f = let g : n ≡ 15 = cc in rw g refl
       by-judgement true false u f = let g : n ≡ 14 = cc in rw g refl
       by-judgement false t u f = let g : n ≡ 13 = cc in rw g refl
-
-  pub ended : (c : Connection) (t : Transport) (n : ℕ) → refuse n ≡ judged q r → withState c Idle ≡ afterResponse c t (judged q r)
-  ended c t n e = sym (chosen (within 13 n 15) _ _ (ends n e)) ∙ ap (afterResponse c t) e
 
 -- ---- replies by the tests that were passed, and by the state
 
@@ -179,10 +122,6 @@ module _ (c : Connection) where
     pub response-length-out : (response : List ℕ) (t : Transport) → transportInRange (t .rtt) (t .mss) (t .headers) ≡ true → (length response ≡ optionLength → ⊥)
         → refuse 7 ≡ responseReply c response t
     response-length-out response t f n = simp (e, f, ne-eqb (length response) optionLength n)
-
-    -- the request that is open in a record in range
-    pub asked-in : (q : OpenRequest) → c .state ≡ Asked q → (q .code ≤ topCode) × (q .nonce < nonceLimit)
-    asked-in q f = let r = asked-ranges q (sym (ap stateInRange f) ∙ sound c e .state-ok) in (r .1, r .2)
 
 -- ---- an asking, test by test
 
@@ -243,28 +182,3 @@ module _ (c : Connection) (w : Wish) (buffer : List ℕ) (e : inRange c ≡ true
             ap (λ (x : List ℕ). answer (sending (asked c w) x)) (l ∙ ap (leaves buffer) (b .1))
             ∙ ap (λ (x : Reply (List ℕ)). andThen x (λ request. answer (sending (asked c w) request))) (sym (b .1))
             ∙ simp (e, f, g, h, k)
-
--- ---- eight bytes read while asked
-
-read-is : (b : List ℕ) (r : Response) → answer r ≡ responseRead b → r ≡ record { rate = rateIn b; «ttl_diff» = ttlIn b; nonce = nonceIn b }
-read-is b r e =
-    let p = passed (eqb (length b) optionLength) r _ 7 e in
-    same-answer (passed (isResponse b) r _ 12 (p .1) .1)
-
-pub read-nonce : (b : List ℕ) (r : Response) → Bytes b → answer r ≡ responseRead b → r .nonce < nonceLimit
-read-nonce b r bytes e =
-    let small : nonceIn b < nonceLimit = let w = word-small b bytes in omega arith in
-    subst (λ (n : ℕ). n < nonceLimit) (sym (ap (λ (x : Response). x .nonce) (read-is b r e))) small
-
-pub taken-read : (q : OpenRequest) (b : List ℕ) (r : Response) → answer r ≡ responseRead b → judged q r ≡ taken q b
-taken-read q b r e = ap (λ (x : Reply Response). andThen x (judged q)) e
-
--- what cannot be read is refused with 12, which leaves the record
-pub taken-not : (c : Connection) (t : Transport) (q : OpenRequest) (b : List ℕ) (n : ℕ) → length b ≡ optionLength → refuse n ≡ responseRead b
-    → (refuse n ≡ taken q b) × (c ≡ afterResponse c t (taken q b))
-unfolding within
-taken-not c t q b n h e =
-    let f : refuse n ≡ taken q b = ap (λ (x : Reply Response). andThen x (judged q)) e in
-    let r = refused (isResponse b) _ n 12 (e ∙ chosen (eqb (length b) optionLength) _ _ (eq-eqb (length b) optionLength h)) in
-    let left : c ≡ afterResponse c t (refuse n) = rw (r .1) refl in
-    (f, left ∙ ap (afterResponse c t) f)

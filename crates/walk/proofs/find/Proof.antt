@@ -8,8 +8,7 @@ use Rattle.wire_rules.specs.declared.Place.{Place}
 use Rattle.wire_rules.specs.Walk.Walks.{look, walkOn, walk}
 use Rattle.walk.specs.Parts.{placeOf}
 use Rattle.walk.specs.Replies.{stepTold}
-use Rattle.wire_rules.proofs.Walk.WalkLaws.{at-last, at-end, at-fault, at-past}
-use Rattle.walk.proofs.PlaceLaws.{place-kept}
+use Rattle.walk.proofs.WalkLaws.{at-last, at-end, at-fault, at-past, place-kept}
 use borrow.Author.Needs.{needs}
 use Rattle.walk.proofs.find.Statement.{statement}
 use Rattle.walk.proofs.find.Tie as tie

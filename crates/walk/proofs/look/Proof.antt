@@ -5,7 +5,8 @@ use native.Mathlib.Omega.{arith}
 use Rattle.common.specs.Choice.{within}
 use Rattle.common.proofs.Choice.{tests}
 use Rattle.wire_rules.specs.Walk.Walks.{look, lengthFits}
-use Rattle.wire_rules.proofs.Walk.WalkLaws.{no-room, reads-first, reads-wrong, in-fit}
+use Rattle.wire_rules.proofs.Walk.WalkLaws.{reads-first, reads-wrong, in-fit}
+use Rattle.walk.proofs.WalkLaws.{no-room}
 use borrow.Author.Needs.{needs}
 use Rattle.walk.proofs.look.Statement.{statement}
 use Rattle.walk.proofs.look.Tie as tie

@@ -4,12 +4,12 @@ use mathlib.Core.List.{List, [], _∷_, _++_, append-assoc}
 use mathlib.Core.Path.{_≡_, refl, sym, ap, _∙_}
 use mathlib.Core.Logic.{_⊎_, inl, inr}
 use native.Mathlib.Omega.{arith}
-use lib.ListN.{length, getD, set, take, drop, length-set, drop-of-length-le}
-use lib.Seq.{set-set, set-comm, drop-cons, sets-eq, length-take-le, take-set-lt}
+use lib.ListN.{length, set, take, drop, length-set}
+use lib.Seq.{set-set, set-comm, sets-eq, length-take-le, take-set-lt}
 use Rattle.common.specs.Lists.{Bytes}
 use Rattle.common.proofs.Choice.{le-or-gt}
 use Rattle.common.proofs.Lists.{bytes-set}
-use Rattle.wire_rules.specs.Ipv4.Headers.{wordAt, checksumPlace, headerLength, headerOf}
+use Rattle.wire_rules.specs.Ipv4.Headers.{checksumPlace, headerLength, headerOf}
 use Rattle.wire_rules.specs.Ipv4.Checksums.{allOnes, onesAdd, onesSum, withChecksum, checksumOf, sealed}
 use Rattle.wire_rules.specs.Ipv4.Claims.{wordTotal}
 
@@ -57,11 +57,6 @@ fills-only (suc n) c h e = go (le-or-gt allOnes c) (above-zero (suc n + c) (omeg
     go (inl l) p = inr (omega arith, omega arith)
     go (inr l) p = inl (omega arith)
 
--- a sum of at most thirty words, whose carries are added in twice
-pub twice : (n : ℕ) → n ≤ 1966050 → (n % 65536 + n / 65536) % 65536 + (n % 65536 + n / 65536) / 65536 ≡ folded n
-twice zero h = refl
-twice (suc n) h = omega arith
-
 -- ---- the words of a list
 
 pub sum-folded : (l : List ℕ) → Bytes l → onesSum l ≡ folded (wordTotal l)
@@ -79,17 +74,6 @@ unfolding wordTotal
 total-append [] q e = omega arith
 total-append (x ∷ []) q e = absurd (omega arith)
 total-append (x ∷ y ∷ p) q e = ap (λ (k : ℕ). x * 256 + y + k) (total-append p q (omega arith)) ∙ omega arith
-
--- one word further
-pub total-step : (l : List ℕ) (i : ℕ) → i + 1 < length l → wordTotal (drop i l) ≡ wordAt l i + wordTotal (drop (i + 2) l)
-unfolding wordTotal
-total-step l i h =
-    ap wordTotal (drop-cons l i 0 (omega arith) ∙ ap (λ (t : List ℕ). getD l i 0 ∷ t) (drop-cons l (suc i) 0 (omega arith)))
-    ∙ ap (λ (k : ℕ). wordAt l i + wordTotal (drop k l)) {x = suc (suc i)} {y = i + 2} (omega arith)
-
-pub total-end : (l : List ℕ) (i : ℕ) → length l ≤ i → wordTotal (drop i l) ≡ 0
-unfolding wordTotal
-total-end l i h = ap wordTotal (drop-of-length-le l {i = i} h)
 
 -- ---- the checksum's field
 
@@ -154,7 +138,3 @@ in-steps packet h =
 pub length-sealed : (packet : List ℕ) → length (sealed packet) ≡ length packet
 unfolding sealed
 length-sealed packet = length-field (checksumOf (headerOf packet)) packet
-
--- after a byte was stored
-pub stored-long : (packet : List ℕ) (i a : ℕ) → length (sealed (set packet i a)) ≡ length packet
-stored-long packet i a = length-sealed (set packet i a) ∙ length-set packet i a

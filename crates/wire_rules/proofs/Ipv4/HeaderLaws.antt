@@ -1,12 +1,12 @@
 -- Laws of a well-formed header: what it says of the lengths, and which bytes it depends on. Assumes nothing.
-use Prim.Native.Nat.{ℕ, _*_, _%_, _≤_, _<_}
-use mathlib.Core.Bool.{Bool, true, false, _&&_}
+use Prim.Native.Nat.{ℕ, _*_, _%_, _≤_}
+use mathlib.Core.Bool.{true, _&&_}
 use mathlib.Core.List.{List}
-use mathlib.Core.Path.{_≡_, refl, sym, ap, _∙_}
+use mathlib.Core.Path.{_≡_, ap}
 use native.Mathlib.Omega.{arith}
-use borrow.Author.Tests.{le-leb, lt-leb, eq-eqb, leb-true, leb-false, eqb-true}
+use borrow.Author.Tests.{le-leb, eq-eqb, leb-true, eqb-true}
 use lib.Dec.{leb, eqb}
-use lib.ListN.{length, set, length-set}
+use lib.ListN.{length, set}
 use lib.Seq.{getD-set-other}
 use Rattle.common.specs.Choice.{within}
 use Rattle.common.proofs.Choice.{both-true, within-low, within-high, in-within}
@@ -52,35 +52,6 @@ pub least : (reach : ℕ) (packet : List ℕ) → HeaderForm reach packet → le
 unfolding headerLength
 least reach packet f = omega (arith, f .words)
 
-pub whole-words : (packet : List ℕ) → headerLength packet % 2 ≡ 0
-unfolding headerLength
-whole-words packet = omega arith
-
--- a header that ends where the slice does is well formed by its total length, once its first bytes are right
-and-false : (t : Bool) → t && false ≡ false
-and-false true = refl
-and-false false = refl
-
-module _ (packet : List ℕ) (long : leastHeader ≤ length packet) (version : versionIn packet ≡ 4) (words : 5 ≤ lengthField packet) where
-  pub short-total : totalLength packet < headerLength packet → wellFormed (length packet) packet ≡ false
-  unfolding wellFormed within
-  short-total h =
-      let first = leb leastHeader (length packet) && eqb (versionIn packet) 4 && (leb 5 (lengthField packet) && leb (lengthField packet) 15) && leb (headerLength packet) (length packet) in
-      ap (λ (t : Bool). first && (t && leb (totalLength packet) (length packet))) (lt-leb (headerLength packet) (totalLength packet) h) ∙ and-false first
-
-  pub by-total : headerLength packet ≤ totalLength packet → leb (totalLength packet) (length packet) ≡ wellFormed (length packet) packet
-  by-total h = go (leb (totalLength packet) (length packet)) refl
-    where
-      long-total : length packet < totalLength packet → (t : Bool) → wellFormed (length packet) packet ≡ t → wellFormed (length packet) packet ≡ false
-      long-total l true e = let f = form (length packet) packet e in absurd (omega arith)
-      long-total l false e = e
-
-      go : (t : Bool) → leb (totalLength packet) (length packet) ≡ t → t ≡ wellFormed (length packet) packet
-      go true e =
-          let high = leb-true (totalLength packet) (length packet) e in
-          sym (formed (length packet) packet (record { long = long; version = version; words = words; inside = omega arith; total-low = h; total-high = high }))
-      go false e = sym (long-total (leb-false (totalLength packet) (length packet) e) (wellFormed (length packet) packet) refl)
-
 -- ---- a header that passed its check
 
 pub record Good (reach : ℕ) (packet : List ℕ) : Type 0 where
@@ -104,10 +75,3 @@ checked-when reach packet w s = simp (w, eq-eqb (onesSum (headerOf packet)) allO
 pub length-kept : (packet : List ℕ) (i a : ℕ) → 1 ≤ i → headerLength (set packet i a) ≡ headerLength packet
 unfolding headerLength
 length-kept packet i a h = ap (λ (k : ℕ). k % 16 * 4) (getD-set-other packet i 0 a 0 (λ e. absurd (omega arith)))
-
--- so a packet that was well formed can be sealed after it
-pub sealable : (reach : ℕ) (packet : List ℕ) (i a : ℕ) → 1 ≤ i → HeaderForm reach packet
-    → (12 ≤ headerLength (set packet i a)) × (headerLength (set packet i a) ≤ length (set packet i a))
-sealable reach packet i a h f =
-    let k = length-kept packet i a h in
-    (rw k (omega (arith, least reach packet f)), rw (k, length-set packet i a) (f .inside))

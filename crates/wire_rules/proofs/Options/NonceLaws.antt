@@ -1,15 +1,13 @@
 -- Laws of a lowering. A nonce is a number to base 4, and its field for code k is digit k - 1: a lowering puts the fresh nonce's digits from the new code up to the
 -- old one between the nonce's own. Assumes nothing.
-use Prim.Native.Nat.{ℕ, zero, suc, _+_, _-_, _*_, _/_, _%_, _^_, _≤_, _<_}
-use mathlib.Core.Bool.{true, false}
+use Prim.Native.Nat.{ℕ, _+_, _-_, _*_, _/_, _%_, _^_, _≤_, _<_}
 use mathlib.Core.Logic.{⊎-elim}
 use mathlib.Core.Path.{_≡_, refl, sym, ap, subst, _∙_}
-use native.Mathlib.Nat.{one-mul, pow-suc, le-trans, mod-lt, div-lt-iff-lt-mul}
+use native.Mathlib.Nat.{le-trans, mod-lt, div-lt-iff-lt-mul}
 use native.Mathlib.Omega.{arith}
 use lib.Arith.{digits-lt, digits-div, digits-mod}
 use lib.Dec.{lit<}
-use lib.Pow.{pow-add, shl-exact}
-use borrow.Author.Tests.{lt-ltb, le-ltb, eq-eqb, ne-eqb, eqb-true}
+use borrow.Author.Tests.{le-ltb, eq-eqb, eqb-true}
 use Rattle.common.proofs.Choice.{by-ltb, le-or-gt}
 use Rattle.common.proofs.Digits.{power-pos, power-split, low-low, digit-of-low, digit-same-low, digit-same-high, digits-same, same-digits}
 use Rattle.wire_rules.specs.Rates.Steps.{topCode}
@@ -46,7 +44,7 @@ module _ (old new n f : ℕ) (h : new ≤ old) where
   middle = ap (λ (k : ℕ). k / 4 ^ new) inner ∙ digits-div (f % 4 ^ old / 4 ^ new) (mod-lt n (power-pos 4 four new))
 
   -- with the nonce below 4 ^ top, so is the mixture
-  mix-small : (top : ℕ) → old ≤ top → n < 4 ^ top → mix (4 ^ old) (4 ^ new) n f < 4 ^ top
+  pub mix-small : (top : ℕ) → old ≤ top → n < 4 ^ top → mix (4 ^ old) (4 ^ new) n f < 4 ^ top
   mix-small top l b =
       let e : 4 ^ top ≡ 4 ^ (top - old) * 4 ^ old = power-split 4 four old top l in
       let q : n / 4 ^ old < 4 ^ (top - old) = div-lt-iff-lt-mul (power-pos 4 four old) .1 (subst (λ (k : ℕ). n < k) e b) in
@@ -138,32 +136,3 @@ agreeing = record {
   whole = λ code a b f. eq-eqb (a % 4 ^ code) (b % 4 ^ code) (same-fields code a b f);
   honest = λ old new nonce fresh h. eq-eqb (nonce % 4 ^ new) (lowered old new nonce fresh % 4 ^ new) (sym (keeps old new nonce fresh h .low));
 }
-
--- ---- what the code computes
-
--- a digit shifted by twice the code
-pub shifted : (code : ℕ) → code ≤ topCode → 1 * 2 ^ (2 * code) % 2 ^ 32 ≡ 4 ^ code
-shifted code h = shl-exact 1 (2 * code) 32 (lit< tt) (omega arith) ∙ one-mul (2 ^ (2 * code)) ∙ sym (four-power code)
-  where
-    four-power : (k : ℕ) → 4 ^ k ≡ 2 ^ (2 * k)
-    four-power zero = refl
-    four-power (suc k) =
-        let e : 2 ^ (2 * suc k) ≡ 2 ^ (2 * k) * 4 = ap (λ (i : ℕ). 2 ^ i) {x = 2 * suc k} {y = 2 * k + 2} (omega arith) ∙ pow-add 2 (2 * k) 2 in
-        pow-suc 4 k ∙ ap (λ (i : ℕ). i * 4) (four-power k) ∙ sym e
-
--- the sum that mixes the two nonces fits 32 bits
-pub mixed-fits : (old new n f high low : ℕ) → new < old → old ≤ topCode → n < nonceLimit → high ≡ 4 ^ old → low ≡ 4 ^ new → mix high low n f < nonceLimit
-mixed-fits old new n f high low l h b p q = rw (p, q) (mix-small old new n f (omega arith) topCode h b)
-
-pub mixed-is : (old new n f high low : ℕ) → new < old → high ≡ 4 ^ old → low ≡ 4 ^ new → mix high low n f ≡ lowered old new n f
-unfolding lowered
-mixed-is old new n f high low l p q = simp (p, q, lt-ltb new old l)
-
--- the comparison by the remainders, with the power that the code computed
-pub agree-same : (code a b power : ℕ) → power ≡ 4 ^ code → a % power ≡ b % power → agree code a b ≡ true
-unfolding agree fieldsUpTo
-agree-same code a b power p e = eq-eqb (a % 4 ^ code) (b % 4 ^ code) (rw p at e)
-
-pub agree-differ : (code a b power : ℕ) → power ≡ 4 ^ code → (a % power ≡ b % power → ⊥) → agree code a b ≡ false
-unfolding agree fieldsUpTo
-agree-differ code a b power p e = ne-eqb (a % 4 ^ code) (b % 4 ^ code) (rw p at e)

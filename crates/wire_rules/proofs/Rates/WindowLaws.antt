@@ -1,15 +1,13 @@
--- Laws of the Quick-Start window: what its ranges say, its rule, and that every product of it fits 64 bits. Assumes nothing.
+-- Laws of the Quick-Start window: what its ranges say, and its rule. Assumes nothing.
 use Prim.Native.Nat.{ℕ, _+_, _*_, _^_, _≤_, _<_}
 use mathlib.Core.Bool.{true, _&&_}
 use mathlib.Core.Path.{_≡_, ap, subst, _∙_}
-use native.Mathlib.Nat.{le-trans, mul-le-mul, mul-le-mul-left, div-mul-le-self, div-lt-iff-lt-mul, mul-assoc, mul-left-comm}
+use native.Mathlib.Nat.{mul-le-mul, mul-le-mul-left, div-mul-le-self, div-lt-iff-lt-mul, mul-assoc, mul-left-comm}
 use native.Mathlib.Omega.{arith}
 use Rattle.common.specs.Choice.{within}
-use Rattle.refusals.specs.Reply.{answer, refuse}
-use Rattle.refusals.proofs.ReplyLaws.{answered, refused}
 use Rattle.common.proofs.Choice.{both-true, within-low, within-high}
 use Rattle.wire_rules.specs.Rates.Steps.{topCode, rateOf}
-use Rattle.wire_rules.specs.Rates.Window.{longestRtt, largestSegment, leastHeaders, mostHeaders, transportInRange, windowInRange, windowSegments, windowBytes, segmentsReply, bytesReply}
+use Rattle.wire_rules.specs.Rates.Window.{longestRtt, largestSegment, leastHeaders, mostHeaders, transportInRange, windowSegments, windowBytes}
 use Rattle.wire_rules.specs.Rates.Claims.{WindowRule}
 use Rattle.wire_rules.proofs.Rates.StepLaws.{power-small, rate-from}
 
@@ -56,20 +54,6 @@ window-rule code rtt mss headers c m =
 
 -- ---- what the code computes
 
--- the bytes of a round trip, in millionths
-pub sent-fits : (code rtt : ℕ) → code ≤ topCode → rtt ≤ longestRtt → 5000 * 2 ^ code * rtt < 2 ^ 64
-sent-fits code rtt c t =
-    let p : 5000 * 2 ^ code * rtt ≤ 163840000 * 60000000 = mul-le-mul (mul-le-mul-left 5000 (power-small code c)) t in
-    omega arith
-
-pub bytes-fit : (code rtt mss headers : ℕ) → code ≤ topCode → rtt ≤ longestRtt → windowBytes code rtt mss headers < 2 ^ 64
-unfolding windowBytes windowSegments
-bytes-fit code rtt mss headers c t =
-    let sent = sent-fits code rtt c t in
-    let w : windowSegments code rtt mss headers * mss ≤ 5000 * 2 ^ code * rtt =
-    le-trans (mul-le-mul-left {m = mss} {n = 1000000 * (mss + headers)} (windowSegments code rtt mss headers) (omega arith)) (div-mul-le-self (5000 * 2 ^ code * rtt) (1000000 * (mss + headers))) in
-    omega arith
-
 -- the most bytes of any window: those of code 15 and the longest round trip, were there no headers
 pub window-most : (code rtt mss headers : ℕ) → code ≤ topCode → rtt ≤ longestRtt → windowBytes code rtt mss headers ≤ 9830400000
 unfolding windowBytes windowSegments
@@ -80,18 +64,3 @@ window-most code rtt mss headers c t =
     let e : q * (1000000 * (mss + headers)) ≡ 1000000 * (q * (mss + headers)) = mul-left-comm q 1000000 (mss + headers) in
     let m : q * mss ≤ q * (mss + headers) = mul-le-mul-left {m = mss} {n = mss + headers} q (omega arith) in
     omega arith
-
--- the reply in bytes, from the reply in segments
-pub bytes-answered : (code rtt mss headers segments : ℕ) → answer segments ≡ segmentsReply code rtt mss headers
-    → (segments * mss < 2 ^ 64) × (answer (segments * mss) ≡ bytesReply code rtt mss headers)
-unfolding windowBytes
-bytes-answered code rtt mss headers segments e =
-    let a = answered (windowInRange code rtt mss headers) segments (windowSegments code rtt mss headers) 7 e in
-    let ranges = both-true (within 1 code topCode) (transportInRange rtt mss headers) (a .0) in
-    let transport = transport-facts rtt mss headers (ranges .1) in
-    (rw (a .1) (bytes-fit code rtt mss headers (within-high 1 code topCode (ranges .0)) (transport .rtt-high)), simp (a .0, a .1))
-
-pub bytes-refused : (code rtt mss headers n : ℕ) → refuse n ≡ segmentsReply code rtt mss headers → refuse n ≡ bytesReply code rtt mss headers
-bytes-refused code rtt mss headers n e =
-    let r = refused (windowInRange code rtt mss headers) (windowSegments code rtt mss headers) n 7 e in
-    simp (r .0, r .1)

@@ -8,21 +8,14 @@ use native.Mathlib.Nat.{add-zero}
 use native.Mathlib.Omega.{arith}
 use borrow.Author.Tests.{eq-eqb, ne-eqb, eqb-true, eqb-false}
 use lib.Dec.{eqb}
-use lib.ListN.{length, drop, length-drop, drop-of-length-le, List·getD-eq-default}
+use lib.ListN.{length, drop}
 use lib.Seq.{drop-drop}
-use Rattle.common.specs.Choice.{within}
 use Rattle.common.proofs.Choice.{clash, le-or-gt, within-low, within-high, in-within}
-use Rattle.refusals.specs.Reply.{answer, refuse}
 use Rattle.wire_rules.specs.Options.Wire.{optionLength, kindIn, lengthIn}
 use Rattle.wire_rules.specs.Options.Requests.{requestKind}
 use Rattle.wire_rules.specs.declared.Place.{Place}
 use Rattle.wire_rules.specs.declared.Place.the-variants.{Nowhere, At}
-use Rattle.wire_rules.specs.Walk.Walks.{Next, end, fault, past, endKind, noOperation, lengthFits, look, goOn, walkOn, walk}
-
--- with less than two bytes left no length fits: the length byte is missing, and reads as 0
-pub no-room : (left : List ℕ) → length left < 2 → lengthFits left ≡ false
-unfolding lengthFits within
-no-room left h = rw (List·getD-eq-default left 0 {n = 1} (omega arith)) refl
+use Rattle.wire_rules.specs.Walk.Walks.{Next, end, fault, past, endKind, noOperation, lengthFits, look, goOn, walkOn}
 
 -- ---- what the walk makes of an option, by its type and its length
 
@@ -165,36 +158,3 @@ goes-past place found offset len bytes h e =
     ∙ inside-of found (suc offset) (len - 1) (drop 1 bytes)
     ∙ ap (λ (l : List ℕ). walkOn found (suc offset + (len - 1)) 0 l) (drop-drop (len - 1) 1 bytes)
     ∙ ap₂ (λ (k n : ℕ). walkOn found k 0 (drop n bytes)) {x = suc offset + (len - 1)} {y = offset + len} {u = 1 + (len - 1)} {v = len} (omega arith) (omega arith)
-
--- ---- the walk of a whole area, from an offset on: what it yields there is what it yields in all
-
-module _ (area : List ℕ) (place : Place) (at : ℕ) (same : walkOn place at 0 (drop at area) ≡ walk area) where
-  pub at-last : length area ≤ at → answer place ≡ walk area
-  unfolding walkOn
-  at-last h = ap (λ (l : List ℕ). walkOn place at 0 l) (sym (drop-of-length-le area {i = at} h)) ∙ same
-
-  module _ (inner : at < length area) where
-    left : 1 ≤ length (drop at area)
-    left = rw (length-drop at area) (omega arith)
-
-    pub at-end : end ≡ look place at (drop at area) → answer place ≡ walk area
-    at-end e =
-        ap (λ (s : Next). goOn place s (λ found len. walkOn found (suc at) (len - 1) (drop 1 (drop at area)))) e
-        ∙ sym (step place at (drop at area) left)
-        ∙ same
-
-    pub at-fault : (n : ℕ) → fault n ≡ look place at (drop at area) → refuse n ≡ walk area
-    at-fault n e =
-        ap (λ (s : Next). goOn place s (λ found len. walkOn found (suc at) (len - 1) (drop 1 (drop at area)))) e
-        ∙ sym (step place at (drop at area) left)
-        ∙ same
-
-    pub at-past : (found : Place) (len : ℕ) → past found len ≡ look place at (drop at area)
-        → (1 ≤ len) × (at + len ≤ length area) × (walkOn found (at + len) 0 (drop (at + len) area) ≡ walk area)
-    at-past found len e =
-        let f = past-fits place found at len (drop at area) left (sym e) in
-        let room : len ≤ length area - at = rw (sym (length-drop at area)) (f .1) in (
-          f .0,
-          omega arith,
-          ap (λ (l : List ℕ). walkOn found (at + len) 0 l) (sym (drop-drop len at area)) ∙ sym (goes-past place found at len (drop at area) left (sym e)) ∙ same,
-        )

@@ -1,4 +1,4 @@
--- What is done with a packet: its IP TTL read, the place of its Quick-Start option found, and passing it on. Assumes nothing.
+-- What is done with a packet: its IP TTL read, the place of its Quick-Start option found, its checksum written, and passing it on. Assumes nothing.
 use Prim.Native.Nat.{ℕ, _+_, _-_}
 use mathlib.Core.List.{List}
 use lib.Dec.{leb}

@@ -1,4 +1,4 @@
--- What is claimed of options and nonces beyond the contracts: what was written reads back, and what a lowering keeps. It speaks of the definitions that the contracts
+-- What is claimed of options and nonces beyond the contracts: what was written reads back, what a lowering keeps, and which refusal is given. It speaks of the definitions that the contracts
 -- cite, and of a nonce's single fields. Assumes nothing.
 use Prim.Native.Nat.{ℕ, _+_, _*_, _/_, _%_, _^_, _≤_, _<_}
 use mathlib.Core.Bool.{true}

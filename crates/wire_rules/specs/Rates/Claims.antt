@@ -3,7 +3,7 @@ use Prim.Native.Nat.{ℕ, _+_, _*_, _≤_, _<_, min}
 use mathlib.Core.Path.{_≡_}
 use Rattle.refusals.specs.Reply.{answer, refuse}
 use Rattle.wire_rules.specs.Rates.Steps.{topCode, rateOf, rateReply, greatestUpTo, roundedDown, roundedUp, roundedUpReply, Greatest, Least}
-use Rattle.wire_rules.specs.Rates.Window.{windowSegments, windowBytes, segmentsReply, bytesReply}
+use Rattle.wire_rules.specs.Rates.Window.{windowSegments, segmentsReply, bytesReply}
 
 -- a higher code has a higher rate
 abbrev pub Increasing : Type 0

@@ -6,8 +6,9 @@ use Rattle.refusals.specs.Reply.{answer}
 use Rattle.wire_rules.specs.Ipv4.Marks.{withCe}
 use Rattle.ipv4.specs.Replies.{checkedTold}
 use Rattle.wire_rules.specs.Ipv4.Checks.{headerChecked}
-use Rattle.wire_rules.proofs.Ipv4.ChecksumLaws.{stored-long}
-use Rattle.wire_rules.proofs.Ipv4.HeaderLaws.{Good, good, sealable}
+use Rattle.ipv4.proofs.ChecksumLaws.{stored-long}
+use Rattle.wire_rules.proofs.Ipv4.HeaderLaws.{Good, good}
+use Rattle.ipv4.proofs.HeaderLaws.{sealable}
 use Rattle.wire_rules.proofs.Ipv4.PacketLaws.{mark-refused, mark-drop, mark-marked}
 use borrow.Author.Needs.{needs}
 use Rattle.ipv4.proofs.ecn.mark.Statement.{statement}

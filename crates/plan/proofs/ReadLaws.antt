@@ -1,4 +1,4 @@
--- Laws of reading an input: where its records end, and what it is, test by test. Assumes nothing.
+-- Laws of an input that is read record by record. Assumes nothing.
 use Prim.Native.Nat.{ℕ, _+_, _-_, _≤_}
 use mathlib.Core.Bool.{true, false}
 use mathlib.Core.List.{List, _++_}

@@ -1,4 +1,4 @@
--- Laws of what a call of a router came through. Assumes nothing.
+-- Laws of an accepted call of a router, with and without a ledger: the tests that it passed, and what it leaves. Assumes nothing.
 use Prim.Native.Nat.{ℕ, zero, suc, _≤_, _<_}
 use mathlib.Core.Bool.{Bool, true, false, _&&_}
 use mathlib.Core.List.{List}

@@ -4,12 +4,12 @@ use mathlib.Core.List.{List}
 use lib.ListN.{length}
 use Rattle.refusals.specs.Reply.{Reply, leaves}
 use Rattle.wire_rules.specs.Ipv4.Packets.{sealedReply}
 use Rattle.path_rules.specs.Hops.Rows.{mostRouters}
 use Rattle.path_rules.specs.Hops.Verdicts.{Verdict}
 use Rattle.path_rules.specs.Path.Demands.{headerWith}
 use Rattle.path_rules.specs.Path.Runs.{runCall}
-use Rattle.path_rules.specs.Path.Own.{ownTransport}
+use Rattle.path_rules.specs.Path.OwnSender.{ownTransport}
 use Rattle.path_rules.specs.Plan.Lines.{askedFor}
 
 -- a packet with its checksum written, if it has a header
 abbrev pub withSeal : List ℕ → List ℕ

@@ -1,37 +1,38 @@
--- Laws of the program's own run: what it is given, and that a run of a plan in range is one of demand 3. Assumes nothing.
+-- Laws of the program's own run: each call is given what the one before it left, and it says the verdict of the plan that was read. Assumes nothing.
 use Prim.Native.Nat.{ℕ, _+_, _-_, _≤_}
 use mathlib.Core.Bool.{true}
 use mathlib.Core.List.{List}
-use mathlib.Core.Path.{_≡_, refl, sym, ap, ap₂, subst, _∙_}
+use mathlib.Core.Path.{_≡_, sym, ap, ap₂, subst, _∙_}
 use native.Mathlib.Omega.{arith}
 use lib.ListN.{length, getD, take, drop}
 use lib.Seq.{getD-drop}
 use Rattle.common.specs.Lists.{Bytes}
-use Rattle.common.proofs.Choice.{chosen}
+use Rattle.common.proofs.Choice.{chosen, clash}
 use Rattle.common.proofs.Lists.{bytes-part}
 use Rattle.refusals.specs.Reply.{answer, leaves}
 use Rattle.sender_rules.specs.declared.Connection.{Connection}
 use Rattle.sender_rules.specs.Connections.Records.{freshWith}
 use Rattle.sender_rules.specs.Sender.Calls.{Sending, sending, wish, transport, senderCalls}
-use Rattle.sender_rules.specs.Sender.Claims.{AskGiven}
-use Rattle.sender_rules.proofs.Sender.Claims.{staysInRange}
 use Rattle.path_rules.specs.Hops.Rows.{mostRouters, nonceAt, rowOf}
 use Rattle.path_rules.proofs.Hops.SpellLaws.{split}
 use Rattle.path_rules.proofs.Hops.Claims.{rows}
-use Rattle.sender_rules.proofs.Connections.Claims.{fresh}
 use Rattle.path_rules.specs.Path.Runs.{pathCalls, blank, runCall}
-use Rattle.path_rules.specs.Path.Claims.{Demanded}
 use Rattle.path_rules.proofs.Path.PlainLaws.{formed}
-use Rattle.path_rules.proofs.Path.Claims.{notEmpty}
 use Rattle.path_rules.proofs.Path.RunClaims.{said-of-row}
 use Rattle.path_rules.specs.Plan.Records.{Plan, startsRequest, startsReceiver, hopsOf, planOf}
-use Rattle.path_rules.specs.Path.Own.{window, ssthresh, roundTrip, segment, headers}
+use Rattle.path_rules.specs.Path.OwnSender.{window, ssthresh, roundTrip, segment, headers}
 use Rattle.path_rules.specs.Plan.Lines.{givenFor, verdictFor}
 use Rattle.path_rules.specs.Path.Demands.{headerWith}
-use Rattle.path_rules.specs.Plan.Parts.{withSeal, runSaid}
+use Rattle.plan.specs.Parts.{withSeal, runSaid}
 use Rattle.path_rules.specs.Plan.Claims.{PlanInRange}
 use Rattle.path_rules.proofs.Plan.InputLaws.{request-parts, receiver-parts}
-use Rattle.path_rules.proofs.Plan.ReadLaws.{row, row-is, rest-is}
+use Rattle.plan.proofs.ReadLaws.{row, row-is, rest-is}
+use Rattle.path_rules.proofs.Plan.GivenLaws.{asked, demanded}
+use Rattle.refusals.specs.declared.Refusal.{Refusal}
+use Rattle.hops.specs.declared.VerdictAnswer.{VerdictAnswer}
+use Rattle.hops.specs.declared.VerdictAnswer.the-variants as VerdictAnswers
+use Rattle.hops.specs.Replies.{verdictAnswerTold}
+use Rattle.path_rules.specs.Hops.Verdicts.{Verdict}
 
 -- each call is given what the one before it left
 pub said-by : (code ttl qs nonce ceiling : ℕ) (row : List ℕ) (c₀ c : Connection) (request packet sent : List ℕ)
@@ -49,49 +50,13 @@ same-run ttl qs row e f g = λ i. runSaid (e i) ttl qs (f i) (g i) row
 
 -- ---- a plan in range
 
+-- what the run says, over any row that is read as the plan's routers
 module _ (limit : ℕ) (p : Plan) (r : PlanInRange limit p) where
-  ask-given : AskGiven (freshWith window ssthresh) (givenFor p .wish) blank
-  ask-given = record {
-    record-in = fresh .in-range window ssthresh (fresh .made window ssthresh (omega arith) (omega arith) (omega arith));
-    code-low = r .code-low;
-    code-high = r .code-high;
-    ttl-low = r .ttl-low;
-    ttl-high = r .ttl-high;
-    nonce-high = r .nonce-high;
-    rtt-low = omega arith;
-    rtt-high = omega arith;
-    room-is = refl;
-  }
-
-  asked : pathCalls .ask (freshWith window ssthresh) (givenFor p .wish) blank .said ≡ answer tt
-  asked = notEmpty .asks window ssthresh (givenFor p .wish) blank ask-given
-
-  -- what the program runs is what demand 3 speaks of
-  pub demanded : Demanded pathCalls (givenFor p)
-  demanded = record {
-    qs-byte = r .qs-byte;
-    asked = asked;
-    carried = notEmpty .packets (freshWith window ssthresh) (givenFor p .wish) blank (r .qs-byte) asked;
-    still-open = refl;
-    waiting-in = staysInRange .ask (freshWith window ssthresh) (givenFor p .wish) blank (ask-given .record-in);
-    transport-given = record {
-      rtt-low = omega arith;
-      rtt-high = omega arith;
-      mss-low = omega arith;
-      mss-high = omega arith;
-      headers-low = omega arith;
-      headers-high = omega arith;
-    };
-    ceiling-high = r .ceiling-high;
-    routers-given = r .routers-in;
-  }
-
-  -- over any row that is read as the plan's routers
   pub said-verdict : (row : List ℕ) → rowOf mostRouters row ≡ answer (p .routers) → runSaid (p .code) (p .ttl) (p .qs) (p .nonce) (p .ceiling) row ≡ answer (verdictFor p)
   said-verdict row e =
       ap (λ (packet : List ℕ). runCall mostRouters (pathCalls .ask (freshWith window ssthresh) (givenFor p .wish) blank .left .connection) packet row (p .ceiling) (transport roundTrip segment headers) .said)
-      (ap (leaves _) (chosen _ _ _ (formed (freshWith window ssthresh) (givenFor p .wish) blank (r .qs-byte) asked)))
-      ∙ said-of-row (givenFor p) demanded row e
+      (ap (leaves _) (chosen _ _ _ (formed (freshWith window ssthresh) (givenFor p .wish) blank (r .qs-byte) (asked limit p r))))
+      ∙ said-of-row (givenFor p) (demanded limit p r) row e
 
 -- ---- a plan that was read
 
@@ -126,3 +91,7 @@ module _ (input : List ℕ) (end : ℕ) (bytes : Bytes input) (starts : startsRe
   read-said =
       ap₂ (runSaid (getD input 1 0) (getD input 2 0) (getD input 3 0) (nonceAt 4 input)) ceiling-is (row-is input end ends far)
       ∙ said-verdict mostRouters read read-in-range the-row (rows .reads mostRouters (read .routers) the-row (split mostRouters (drop 8 input) .2) (split mostRouters (drop 8 input) .3))
+
+-- an answer that tells a verdict is no refusal
+pub never-refused : (r : VerdictAnswer) (why : Refusal) (v : Verdict) → r ≡ VerdictAnswers.Refused why → verdictAnswerTold r ≡ answer v → ⊥
+never-refused r why v e f = clash (cc)
