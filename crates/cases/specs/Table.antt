@@ -1,4 +1,5 @@
--- The cases W1 to W14 of document 01 ("Cases") as one table, and the claim that all of them hold. What is found is computed by the definitions that the contracts cite. Assumes nothing.
+-- The cases W1 to W14 of document 01 ("Cases") as one table, and the claim that all of them hold. What is found is computed by the
+-- definitions that the contracts cite. Assumes nothing.
 use Prim.Native.Nat.{ℕ, zero, suc}
 use mathlib.Core.Bool.{Bool, true, false, _&&_}
 use mathlib.Core.List.{List, [], _∷_}
@@ -126,12 +127,14 @@ qsTtlsFor came =
 abbrev pub phaseAt : ℕ → Connection → Connection
 phaseAt time c = congestionCalls .phase (congestionCalls .sample c (sampleOf time 1000) .left) 100000 4380 time .left
 
--- window and ssthresh, provided that the period starts again at this time: in W14 neither changes, so that they alone do not show that the period was over
+-- window and ssthresh, provided that the period starts again at this time: in W14 neither changes, so that they alone do not show that the
+-- period was over
 abbrev pub startedAgain : ℕ → Moment → Connection → Reply (List ℕ)
 startedAgain time Absent c = answer []
 startedAgain time (At start) c = pick (eqb start time) (two (c .window) (c .ssthresh)) (answer [])
 
--- from a fresh record: non-validated at time 0, when the period starts, and still at 300,000,001, when it is over (twice 1,000 is less than either window)
+-- from a fresh record: non-validated at time 0, when the period starts, and still at 300,000,001, when it is over (twice 1,000 is less than
+-- either window)
 abbrev pub periodOver : ℕ → ℕ → Reply (List ℕ)
 periodOver window ssthresh =
     let c = phaseAt 300000001 (phaseAt 0 (freshWith window ssthresh)) in

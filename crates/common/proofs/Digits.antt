@@ -1,5 +1,5 @@
--- Laws of a number's digits to a base b: digit i of n is n / b ^ i % b, its i lowest digits are n % b ^ i, and the digits above those are n / b ^ i.
--- Assumes nothing.
+-- Laws of a number's digits to a base b: digit i of n is n / b ^ i % b, its i lowest digits are n % b ^ i, and the digits above those are n
+-- / b ^ i. Assumes nothing.
 use Prim.Native.Nat.{ℕ, zero, suc, _+_, _-_, _*_, _/_, _%_, _^_, _≤_, _<_, zero-le}
 use mathlib.Core.Path.{_≡_, sym, ap, ap₂, subst, _∙_}
 use native.Mathlib.Nat.{le-refl, lt-of-lt-of-le, mul-comm, mul-le-mul-left, mod-lt, mod-one, mod-eq-of-lt, pow-zero, pow-suc, pow-succ', pow-le-pow-right, div-div-eq-div-mul}

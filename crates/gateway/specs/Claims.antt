@@ -1,4 +1,5 @@
--- What is claimed of the exported functions' results: each answer has a number of its own, and which numbers a function can give. Assumes nothing.
+-- What is claimed of the exported functions' results: each answer has a number of its own, and which numbers a function can give. Assumes
+-- nothing.
 use Prim.Native.Nat.{ℕ}
 use mathlib.Core.Bool.{Bool, true, false, _||_}
 use mathlib.Core.List.{List, [], _∷_}

@@ -1,5 +1,5 @@
--- The number of each answer of an exported function: 0 for what was done, 1 to 15 for a refusal of the table, 40 for a receiver's "unanswered", 41 for marking's "drop".
--- Assumes nothing.
+-- The number of each answer of an exported function: 0 for what was done, 1 to 15 for a refusal of the table, 40 for a receiver's
+-- "unanswered", 41 for marking's "drop". Assumes nothing.
 use Prim.Native.Nat.{ℕ}
 use mathlib.Core.List.{List}
 use Rattle.refusals.specs.Reply.{Reply, answer, refuse}

@@ -1,4 +1,5 @@
--- Laws of the program's own run: each call is given what the one before it left, and it says the verdict of the plan that was read. Assumes nothing.
+-- Laws of the program's own run: each call is given what the one before it left, and it says the verdict of the plan that was read. Assumes
+-- nothing.
 use Prim.Native.Nat.{ℕ, _+_, _-_, _≤_}
 use mathlib.Core.Bool.{true}
 use mathlib.Core.List.{List}

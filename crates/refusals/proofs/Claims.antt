@@ -1,5 +1,5 @@
--- The claims of specs/Claims.antt. The cases are written as a row in the order of their numbers; reading the row at a number gives the case back.
--- Assumes nothing.
+-- The claims of specs/Claims.antt. The cases are written as a row in the order of their numbers; reading the row at a number gives the case
+-- back. Assumes nothing.
 use Prim.Native.Nat.{ℕ, zero, suc, _+_, _-_, _<_}
 use mathlib.Core.Path.{_≡_, refl, sym, ap, _∙_}
 use mathlib.Core.List.{List, [], _∷_}

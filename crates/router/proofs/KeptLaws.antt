@@ -1,4 +1,5 @@
--- What a router with a ledger keeps of its link whatever it answers: the allowance, so that a caller who keeps that by himself stores the tick alone. Assumes nothing.
+-- What a router with a ledger keeps of its link whatever it answers: the allowance, so that a caller who keeps that by himself stores the
+-- tick alone. Assumes nothing.
 use Prim.Native.Nat.{ℕ}
 use mathlib.Core.Path.{_≡_, refl, ap, _∙_}
 use lib.ListN.{length}

@@ -1,4 +1,5 @@
--- Laws of routers: a packet that was met is looked at, decided and passed on, and what that leaves is the decision put into its view. Assumes nothing.
+-- Laws of routers: a packet that was met is looked at, decided and passed on, and what that leaves is the decision put into its view.
+-- Assumes nothing.
 use Prim.Native.Nat.{ℕ, _+_, _-_, _≤_, _<_}
 use mathlib.Core.Bool.{Bool, true, false}
 use mathlib.Core.List.{List, _++_, append-assoc}

@@ -1,4 +1,5 @@
--- Laws of a row that is spelled hop by hop: which hop is taken, a turn of the loop of `spell` and its end, and that what was spelled reads back as the row. Assumes nothing.
+-- Laws of a row that is spelled hop by hop: which hop is taken, a turn of the loop of `spell` and its end, and that what was spelled reads
+-- back as the row. Assumes nothing.
 use Prim.Native.Nat.{ℕ, suc, _+_, _*_, _/_, _%_, _≤_, _<_, zero-le}
 use mathlib.Core.Bool.{Bool, true, false, _&&_}
 use mathlib.Core.List.{List, [], _∷_, _++_, append-nil, append-assoc}

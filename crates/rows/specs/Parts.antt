@@ -1,4 +1,5 @@
--- What the functions do that are not public, part by part: how a row of hop records is spelled as bytes. No claim speaks of these definitions. Assumes nothing.
+-- What the functions do that are not public, part by part: how a row of hop records is spelled as bytes. No claim speaks of these
+-- definitions. Assumes nothing.
 use Prim.Native.Nat.{ℕ, _+_, _*_, _-_}
 use mathlib.Core.Bool.{Bool, true, false, _&&_}
 use mathlib.Core.List.{List, [], _∷_}

@@ -1,4 +1,5 @@
--- `congestion::echo` meets its contract: past the tests of its numbers it reacts where the acknowledgement is ahead of the mark. Assumes nothing.
+-- `congestion::echo` meets its contract: past the tests of its numbers it reacts where the acknowledgement is ahead of the mark. Assumes
+-- nothing.
 use mathlib.Core.Bool.{true, false}
 use mathlib.Core.Path.{_≡_, ap, _∙_}
 use Rattle.common.specs.Choice.{within}

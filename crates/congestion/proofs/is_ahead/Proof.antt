@@ -1,4 +1,5 @@
--- `congestion::is_ahead` meets its contract: the difference modulo 2^32 is the number that gives the acknowledgement again when the mark is added. Assumes nothing.
+-- `congestion::is_ahead` meets its contract: the difference modulo 2^32 is the number that gives the acknowledgement again when the mark is
+-- added. Assumes nothing.
 use mathlib.Core.Path.{refl}
 use Rattle.sender_rules.specs.Congestion.Echoes.{isAhead}
 use Rattle.congestion.proofs.EchoLaws.{not-ahead, ahead-by}

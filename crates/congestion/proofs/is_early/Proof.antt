@@ -1,4 +1,5 @@
--- `congestion::is_early` meets its contract: with no period's start after it, the time is compared with the newest sample's. Assumes nothing.
+-- `congestion::is_early` meets its contract: with no period's start after it, the time is compared with the newest sample's. Assumes
+-- nothing.
 use mathlib.Core.Path.{sym, _∙_}
 use Rattle.common.proofs.Lists.{length-mapped}
 use Rattle.congestion.proofs.SampleLaws.{early-period, not-early, early-by}

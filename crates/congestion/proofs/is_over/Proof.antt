@@ -1,4 +1,5 @@
--- `congestion::is_over` meets its contract: the difference of the times is above the longest period where the time is above the sum. Assumes nothing.
+-- `congestion::is_over` meets its contract: the difference of the times is above the longest period where the time is above the sum.
+-- Assumes nothing.
 use Prim.Native.Nat.{_+_}
 use mathlib.Core.Path.{refl, sym}
 use native.Mathlib.Omega.{arith}

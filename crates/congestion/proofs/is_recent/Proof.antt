@@ -1,4 +1,5 @@
--- `congestion::is_recent` meets its contract: the difference of the times is at most the limit where the sum reaches the time. Assumes nothing.
+-- `congestion::is_recent` meets its contract: the difference of the times is at most the limit where the sum reaches the time. Assumes
+-- nothing.
 use Prim.Native.Nat.{_+_}
 use mathlib.Core.Path.{sym}
 use native.Mathlib.Omega.{arith}

@@ -1,4 +1,5 @@
--- `congestion::phase` meets its contract: past its tests it says what the judgement was, and ends the period or lets it run on. Assumes nothing.
+-- `congestion::phase` meets its contract: past its tests it says what the judgement was, and ends the period or lets it run on. Assumes
+-- nothing.
 use mathlib.Core.Bool.{true, false}
 use mathlib.Core.Path.{_≡_, sym, ap, _∙_}
 use Rattle.common.proofs.Choice.{held, failed}

@@ -1,4 +1,5 @@
--- `congestion::pipe_ack` meets its contract: the samples from place i on give what has been found so far, and each round takes one more in front of them. Assumes nothing.
+-- `congestion::pipe_ack` meets its contract: the samples from place i on give what has been found so far, and each round takes one more in
+-- front of them. Assumes nothing.
 use Prim.Native.Nat.{_-_, _≤_}
 use mathlib.Core.Path.{_≡_, ap, _∙_}
 use native.Mathlib.Omega.{arith}

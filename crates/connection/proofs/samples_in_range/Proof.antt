@@ -1,4 +1,5 @@
--- `connection::samples_in_range` meets its contract: the samples from place i on are in range exactly when all are, since those before it were. Assumes nothing.
+-- `connection::samples_in_range` meets its contract: the samples from place i on are in range exactly when all are, since those before it
+-- were. Assumes nothing.
 use Prim.Native.Nat.{_-_, _≤_}
 use mathlib.Core.Path.{_≡_, refl, sym, _∙_}
 use lib.ListN.{length, take, drop}

@@ -1,4 +1,5 @@
--- `gateway::qs_router_ledger` meets its contract: the router's answer by its number; the allowance is the one that was given, so the tick alone is stored. Assumes nothing.
+-- `gateway::qs_router_ledger` meets its contract: the router's answer by its number; the allowance is the one that was given, so the tick
+-- alone is stored. Assumes nothing.
 use Prim.Native.Nat.{ℕ}
 use mathlib.Core.Path.{sym, ap, _∙_}
 use Rattle.gateway_rules.specs.Router.Routers.{Passage}

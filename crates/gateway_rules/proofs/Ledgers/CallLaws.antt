@@ -1,4 +1,5 @@
--- Laws of the calls on a ledger: which tests lead to which reply, and what an accepted call says of the link that it leaves. Assumes nothing.
+-- Laws of the calls on a ledger: which tests lead to which reply, and what an accepted call says of the link that it leaves. Assumes
+-- nothing.
 use Prim.Native.Nat.{ℕ, _-_, _≤_, _<_}
 use mathlib.Core.Bool.{true, false}
 use mathlib.Core.List.{List}

@@ -1,5 +1,5 @@
--- The claims of specs/Ledgers/Claims.antt, from the laws of rows and calls; and ledgers that the history theorem shuts out, each by a short run that it would have to account for.
--- Assumes nothing.
+-- The claims of specs/Ledgers/Claims.antt, from the laws of rows and calls; and ledgers that the history theorem shuts out, each by a short
+-- run that it would have to account for. Assumes nothing.
 use Prim.Native.Nat.{ℕ, _+_, _-_, _%_, _≤_}
 use mathlib.Core.Bool.{Bool, true, false}
 use mathlib.Core.List.{List, [], _∷_, _++_}
@@ -189,7 +189,8 @@ after-one : (calls : Calls) (past : Past) (list : List Call) (call : Call) → a
 after-one calls past [] call = refl
 after-one calls past (c ∷ rest) call = after-one calls (after calls past c) rest call
 
--- where the history holds before and after an asking at the tick of the link, what is stored is what the slot held and the rate of what is granted
+-- where the history holds before and after an asking at the tick of the link, what is stored is what the slot held and the rate of what is
+-- granted
 stored : (made : Link → ℕ → ℕ) (slots allowance asked : ℕ) (past : Past) → within 1 asked topCode ≡ true → InRange slots allowance
     → Accounted slots allowance past → Accounted slots allowance (after (ownSum made) past (histories.asking (past .tick) asked))
     → made (past .link) (grantOf (past .link) asked) ≡ held (past .link) + rateOf (grantOf (past .link) asked)

@@ -1,4 +1,5 @@
--- The history theorem: what holds of a link's past after any calls. The invariant is that the row is the one that the approvals make. Assumes nothing.
+-- The history theorem: what holds of a link's past after any calls. The invariant is that the row is the one that the approvals make.
+-- Assumes nothing.
 use Prim.Native.Nat.{ℕ, _≤_, _<_}
 use mathlib.Core.List.{List, [], _∷_}
 use mathlib.Core.Logic.{⊎-elim}

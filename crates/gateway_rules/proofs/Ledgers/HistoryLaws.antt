@@ -1,5 +1,5 @@
--- Laws of a link's history. The row that the approvals of the last ticks make is written down from the approvals alone; moving on and granting take it from tick to tick, and its
--- total and its slots are what was approved. Assumes nothing.
+-- Laws of a link's history. The row that the approvals of the last ticks make is written down from the approvals alone; moving on and
+-- granting take it from tick to tick, and its total and its slots are what was approved. Assumes nothing.
 use Prim.Native.Nat.{ℕ, zero, suc, _+_, _-_, _%_, _≤_, _<_}
 use mathlib.Core.Bool.{Bool, true, false}
 use mathlib.Core.List.{List, [], _∷_}

@@ -1,4 +1,5 @@
--- Laws of a packet that a router replies with: which refusal is given, what an accepted call leaves of the packet, and one hop. Assumes nothing.
+-- Laws of a packet that a router replies with: which refusal is given, what an accepted call leaves of the packet, and one hop. Assumes
+-- nothing.
 use Prim.Native.Nat.{ℕ, _+_, _-_, _*_, _%_, _≤_, _<_, min}
 use mathlib.Core.Bool.{true, false}
 use mathlib.Core.List.{List}

@@ -1,4 +1,5 @@
--- One packet only: two packets that were passed on from the same one, and carry the same four numbers, are equal byte by byte. Assumes nothing.
+-- One packet only: two packets that were passed on from the same one, and carry the same four numbers, are equal byte by byte. Assumes
+-- nothing.
 use Prim.Native.Nat.{ℕ, suc, _+_, _-_, _*_, _/_, _%_, _≤_, _<_}
 use mathlib.Core.Bool.{Bool, true, false}
 use mathlib.Core.List.{List}

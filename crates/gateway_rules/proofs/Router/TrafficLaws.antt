@@ -1,5 +1,5 @@
--- The allowance in the packets: each packet that a router with a ledger passes on is one call of its ledger or none, and carries the code that was granted or 0; so what the history
--- theorem says of approvals holds of packets. Assumes nothing.
+-- The allowance in the packets: each packet that a router with a ledger passes on is one call of its ledger or none, and carries the code
+-- that was granted or 0; so what the history theorem says of approvals holds of packets. Assumes nothing.
 use Prim.Native.Nat.{ℕ, zero, suc, _+_, _≤_, min}
 use mathlib.Core.Bool.{Bool, true, false}
 use mathlib.Core.List.{List, [], _∷_, _++_}

@@ -1,4 +1,5 @@
--- What is claimed of looking at a packet: it shows the packet's view, and a request's place is where its option is located. Assumes nothing.
+-- What is claimed of looking at a packet: it shows the packet's view, and a request's place is where its option is located. Assumes
+-- nothing.
 use Prim.Native.Nat.{ℕ}
 use mathlib.Core.List.{List}
 use mathlib.Core.Path.{_≡_}

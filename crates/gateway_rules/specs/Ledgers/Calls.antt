@@ -1,5 +1,5 @@
--- The calls on a ledger (document 01, "Ledger" and "Numbers and refusals"): setting up, moving on, asking. A ledger is document 01's account of what a router approved on a link in
--- the last ticks. Assumes nothing.
+-- The calls on a ledger (document 01, "Ledger" and "Numbers and refusals"): setting up, moving on, asking. A ledger is document 01's
+-- account of what a router approved on a link in the last ticks. Assumes nothing.
 use Prim.Native.Nat.{ℕ, _-_, _^_}
 use mathlib.Core.Bool.{Bool, _&&_}
 use mathlib.Core.List.{List}
@@ -68,7 +68,8 @@ granted asked link = record {
   link = lent (charged (link .ledger .tick) (rateOf (grantOf link asked)) (link .row)) (link .ledger);
 }
 
--- "a code asked of .. ledger 1 to 15", else 7; then the link moves on to the tick, or is refused; then the grant, from the row as it stands at that tick
+-- "a code asked of .. ledger 1 to 15", else 7; then the link moves on to the tick, or is refused; then the grant, from the row as it stands
+-- at that tick
 abbrev pub askReply : Link → ℕ → ℕ → Reply Granted
 askReply link tick asked =
     pick (within 1 asked topCode)

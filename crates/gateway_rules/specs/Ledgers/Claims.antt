@@ -1,5 +1,5 @@
--- What is claimed of a ledger beyond the contracts: which slots moving on zeroes, which refusal is given, what a grant is, that an accepted call can be followed by others, and the
--- history theorem. Ranges are the paper's numbers. Assumes nothing.
+-- What is claimed of a ledger beyond the contracts: which slots moving on zeroes, which refusal is given, what a grant is, that an accepted
+-- call can be followed by others, and the history theorem. Ranges are the paper's numbers. Assumes nothing.
 use Prim.Native.Nat.{ℕ, _+_, _-_, _^_, _%_, _≤_, _<_}
 use mathlib.Core.List.{List, [], _∷_, _++_}
 use mathlib.Core.Logic.{_⊎_}
@@ -21,7 +21,8 @@ pub record Totals : Type 0 where
   pub zeros : (slots : ℕ) → total (replicate slots 0) ≡ 0
   pub change : (row : List ℕ) (slot a : ℕ) → slot < length row → total (set row slot a) + getD row slot 0 ≡ total row + a
 
--- a sum of approvals is the sum over those before and those behind, each of which counts with its rate where its tick is one that is asked for, and else not at all
+-- a sum of approvals is the sum over those before and those behind, each of which counts with its rate where its tick is one that is asked
+-- for, and else not at all
 pub record Approving : Type 0 where
   pub at-own : (t : ℕ) (a : Approval) → a .tick ≡ t → approvedAt t (a ∷ []) ≡ rateOf (a .code)
   pub at-other : (t : ℕ) (a : Approval) → (a .tick ≡ t → ⊥) → approvedAt t (a ∷ []) ≡ 0
@@ -51,7 +52,8 @@ pub record InRange (slots allowance : ℕ) : Type 0 where
   pub slots-high : slots ≤ 64
   pub allowance-high : allowance ≤ 2 ^ 40
 
--- "Ledger calls test 7, 8, 9", and accept in every other case: what a call replies on a link at a tick, where `ranges` says that its numbers are in their ranges
+-- "Ledger calls test 7, 8, 9", and accept in every other case: what a call replies on a link at a tick, where `ranges` says that its
+-- numbers are in their ranges
 pub record Tested {A : Type 0} (ranges : Type 0) (link : Link) (tick : ℕ) (reply : Reply A) : Type 0 where
   pub seven : (ranges → ⊥) → reply ≡ refuse 7
   pub eight : ranges → link .ledger .allowance < total (link .row) → reply ≡ refuse 8
@@ -79,8 +81,8 @@ pub record Moves (link : Link) (tick : ℕ) (next : Link) : Type 0 where
   pub tick-is : next .ledger .tick ≡ tick
   pub allowance-is : next .ledger .allowance ≡ link .ledger .allowance
 
--- a grant on a link that has moved on: the greatest code at most the code asked whose rate is at most A less the row's total; that rate is added to the slot of the tick, and nothing
--- else changes
+-- a grant on a link that has moved on: the greatest code at most the code asked whose rate is at most A less the row's total; that rate is
+-- added to the slot of the tick, and nothing else changes
 pub record Grants (moved : Link) (tick asked : ℕ) (g : Granted) : Type 0 where
   pub rule : Greatest asked (moved .ledger .allowance - total (moved .row)) (g .code)
   pub only : (code : ℕ) → Greatest asked (moved .ledger .allowance - total (moved .row)) code → code ≡ g .code
@@ -130,7 +132,8 @@ pub record Accounted (slots allowance : ℕ) (past : Past) : Type 0 where
   pub total-most : total (past .link .row) ≤ allowance
   -- at every tick, passed or to come
   pub last-most : (t : ℕ) → approvedLast slots t (past .approvals) ≤ allowance
-  -- each slot holds what was approved at its own tick, the one of the last S ticks whose slot it is; a slot that has no such tick yet holds 0
+  -- each slot holds what was approved at its own tick, the one of the last S ticks whose slot it is; a slot that has no such tick yet holds
+  -- 0
   pub slot-is : (t : ℕ) → t ≤ past .tick → past .tick < t + slots → getD (past .link .row) (t % slots) 0 ≡ approvedAt t (past .approvals)
   pub slot-early : (slot : ℕ) → past .tick < slot → slot < slots → getD (past .link .row) slot 0 ≡ 0
   -- the row keeps its length, the allowance stays, and the stored tick is that of the last call that was not refused
@@ -138,7 +141,8 @@ pub record Accounted (slots allowance : ℕ) (past : Past) : Type 0 where
   pub allowance-is : past .link .ledger .allowance ≡ allowance
   pub tick-is : past .link .ledger .tick ≡ past .tick
 
--- "From a zeroed row with one allowance", at any tick: this holds after any calls, at any ticks, refused ones among them; so it holds after each of them
+-- "From a zeroed row with one allowance", at any tick: this holds after any calls, at any ticks, refused ones among them; so it holds after
+-- each of them
 abbrev pub History : Calls → Type 0
 History calls = (row : List ℕ) (tick allowance : ℕ) (ledger : Ledger) → calls .setUp row tick allowance .said ≡ answer ledger
     → (list : List Call) → Accounted (length row) allowance (afterAll calls (begun (lent (calls .setUp row tick allowance .left) ledger) tick) list)
@@ -148,7 +152,8 @@ HistoryTheorem = History ledgerCalls
 
 -- ---- ledgers of which it is false
 
--- a ledger with our tests and ranges that moves on by `moving`, moves on before a grant by `before`, and grants by `granting`; ours has `moveReply` for both, and `granted`
+-- a ledger with our tests and ranges that moves on by `moving`, moves on before a grant by `before`, and grants by `granting`; ours has
+-- `moveReply` for both, and `granted`
 abbrev pub ledgerBy : (Link → ℕ → Reply Link) → (Link → ℕ → Reply Link) → (ℕ → Link → Granted) → Calls
 ledgerBy moving before granting =
     callsBy setUpReply moving (λ link tick asked. pick (within 1 asked topCode) (andThen (before link tick) (λ moved. answer (granting asked moved))) (refuse 7))
@@ -197,7 +202,8 @@ pub record ShutOut : Type 0 where
   -- with all of its parts ours, it is ours
   pub otherwise-ours : ledgerBy moveReply moveReply granted ≡ ledgerCalls
   pub own-sum-ours : ownSum (λ link code. held link + rateOf code) ≡ ledgerCalls
-  -- whatever sum a ledger makes up, if at some link that it comes to, asked at the tick where it stands, it stores something else than what the slot held and the rate of what it grants
+  -- whatever sum a ledger makes up, if at some link that it comes to, asked at the tick where it stands, it stores something else than what
+  -- the slot held and the rate of what it grants
   pub own-sum : (made : Link → ℕ → ℕ) (row : List ℕ) (tick allowance : ℕ) (ledger : Ledger) → ledgerCalls .setUp row tick allowance .said ≡ answer ledger
       → (list : List Call) (asked : ℕ) → 1 ≤ asked → asked ≤ 15
       → let link = afterAll (ownSum made) (begun (lent (ledgerCalls .setUp row tick allowance .left) ledger) tick) list .link in

@@ -1,5 +1,5 @@
--- The history of a link: calls of every kind after its row was set up, and what was approved when. It is defined for the calls of any ledger, so that a claim about it can be made
--- of ours and of others. Assumes nothing.
+-- The history of a link: calls of every kind after its row was set up, and what was approved when. It is defined for the calls of any
+-- ledger, so that a claim about it can be made of ours and of others. Assumes nothing.
 use Prim.Native.Nat.{ℕ, _+_}
 use mathlib.Core.Bool.{Bool, _&&_}
 use mathlib.Core.List.{List, [], _∷_}
@@ -38,8 +38,8 @@ pub record Approval : Type 0 where
   pub tick : ℕ
   pub code : ℕ
 
--- what has happened: the link as it is now, the tick of the last call that was not refused, and all approvals, the latest first. Tick and approvals are taken from the calls and
--- what was said, and from nothing that the ledger keeps.
+-- what has happened: the link as it is now, the tick of the last call that was not refused, and all approvals, the latest first. Tick and
+-- approvals are taken from the calls and what was said, and from nothing that the ledger keeps.
 pub record Past : Type 0 where
   pub link : Link
   pub tick : ℕ

@@ -1,5 +1,5 @@
--- What is claimed of a receiver beyond the contracts: which refusal is given, when a request is answered, and that the response reads back as what was reported. Ranges are the
--- paper's numbers. Assumes nothing.
+-- What is claimed of a receiver beyond the contracts: which refusal is given, when a request is answered, and that the response reads back
+-- as what was reported. Ranges are the paper's numbers. Assumes nothing.
 use Prim.Native.Nat.{ℕ, _+_, _/_, _%_, _≤_, _<_, min}
 use mathlib.Core.List.{List}
 use mathlib.Core.Logic.{_⊎_}

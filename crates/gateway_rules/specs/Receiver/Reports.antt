@@ -1,4 +1,5 @@
--- What a receiver reports (document 01, "Router, receiver, sender"): the decision in numbers, the response buffer afterwards, and whether it was written. Assumes nothing.
+-- What a receiver reports (document 01, "Router, receiver, sender"): the decision in numbers, the response buffer afterwards, and whether
+-- it was written. Assumes nothing.
 use Prim.Native.Nat.{ℕ, min}
 use mathlib.Core.Bool.{Bool, _&&_}
 use mathlib.Core.List.{List}
@@ -18,7 +19,8 @@ pub data Report : Type 0 where
   unanswered : Report
   reported : Response → Report
 
--- "The rate to report is the lesser of rate and ceiling. If 0, it is "unanswered" .. Else it writes a response with that rate, TTL Diff .., and the nonce as it came."
+-- "The rate to report is the lesser of rate and ceiling. If 0, it is "unanswered" .. Else it writes a response with that rate, TTL Diff ..,
+-- and the nonce as it came."
 unfoldable pub reportOn : ℕ → ℕ → Request → Report
 reportOn ceiling ttl r =
     pick (eqb (min (r .rate) ceiling) 0) unanswered (reported (record { rate = min (r .rate) ceiling; «ttl_diff» = ttlDiff ttl (r .«qs_ttl»); nonce = r .nonce }))
@@ -32,7 +34,8 @@ reportReply ceiling ttl (some r) = answer (reportOn ceiling ttl r)
 unfoldable pub receiverInRange : ℕ → ℕ → Bool
 receiverInRange ceiling room = leb ceiling topCode && eqb room optionLength
 
--- a receiver's reply, for a response buffer of `room` bytes. "Packet calls test 7, 1, 2, then 3 and 5 as met, then 4 ..": a receiver does not test 6
+-- a receiver's reply, for a response buffer of `room` bytes. "Packet calls test 7, 1, 2, then 3 and 5 as met, then 4 ..": a receiver does
+-- not test 6
 abbrev pub received : ℕ → ℕ → ℕ → List ℕ → Reply Report
 received reach ceiling room packet =
     pick (receiverInRange ceiling room) (andThen (view reach packet) (λ v. reportReply ceiling (v .ttl) (v .request))) (refuse 7)

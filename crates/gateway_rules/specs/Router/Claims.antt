@@ -1,5 +1,6 @@
--- What is claimed of routers beyond the contracts: which refusal is given, what every accepted call leaves, one hop as a step on four numbers, when the ledger is asked, and the
--- allowance in the packets. Places in a packet are RFC 791's numbers (8 is IP TTL, 10 and 11 the checksum), and ranges are the paper's. Assumes nothing.
+-- What is claimed of routers beyond the contracts: which refusal is given, what every accepted call leaves, one hop as a step on four
+-- numbers, when the ledger is asked, and the allowance in the packets. Places in a packet are RFC 791's numbers (8 is IP TTL, 10 and 11 the
+-- checksum), and ranges are the paper's. Assumes nothing.
 use Prim.Native.Nat.{ℕ, _+_, _-_, _%_, _^_, _≤_, _<_, min}
 use mathlib.Core.Bool.{_&&_}
 use mathlib.Core.List.{List, []}
@@ -69,7 +70,8 @@ pub record Testing (router : Router) : Type 0 where
   pub accepted : (reach ceiling fresh : ℕ) (packet : List ℕ) (place : Place) → Given ceiling fresh → located reach packet ≡ answer place → 1 < getD packet 8 0
       → (new : List ℕ) × (router reach ceiling fresh packet ≡ answer new)
 
--- what passing a packet on leaves: "IP TTL falls by one and the checksum is written anew", and every other byte stays where `Outside` holds of its place
+-- what passing a packet on leaves: "IP TTL falls by one and the checksum is written anew", and every other byte stays where `Outside` holds
+-- of its place
 pub record PassedOn (reach : ℕ) (packet new : List ℕ) (Outside : ℕ → Type 0) : Type 0 where
   pub lowered : getD new 8 0 + 1 ≡ getD packet 8 0
   pub checks : headerChecked reach new ≡ answer (headerLength packet)
@@ -119,7 +121,8 @@ pub record Carries (reach : ℕ) (packet : List ℕ) (place ttl : ℕ) (r : Requ
   pub located-at : located reach packet ≡ answer (At place)
   pub viewed : view reach packet ≡ answer (record { ttl = ttl; request = some r })
 
--- a reply with a packet that is again without fault, has its option at the same place, and carries these four numbers: IP TTL, rate, QS TTL and nonce
+-- a reply with a packet that is again without fault, has its option at the same place, and carries these four numbers: IP TTL, rate, QS TTL
+-- and nonce
 pub record Leaves (reach : ℕ) (packet : List ℕ) (place ttl : ℕ) (r : Request) (reply : Reply (List ℕ)) : Type 0 where
   pub new : List ℕ
   pub replied : reply ≡ answer new
@@ -215,8 +218,8 @@ pub record Accounted (slots allowance : ℕ) (traffic : Traffic) : Type 0 where
   pub left-most : (t : ℕ) → leftLast slots t (traffic .sent) ≤ allowance
   pub total-is : total (traffic .link .row) ≡ leftLast slots (traffic .link .ledger .tick) (traffic .sent)
 
--- "From a zeroed row with one allowance": over any packets of bytes, whatever they are and whatever the calls are given, refused ones among them. A packet that was passed on with
--- a rate above 0 was approved; any other counts 0
+-- "From a zeroed row with one allowance": over any packets of bytes, whatever they are and whatever the calls are given, refused ones among
+-- them. A packet that was passed on with a rate above 0 was approved; any other counts 0
 abbrev pub Allowance : LedgerRouter → Type 0
 Allowance router = (row : List ℕ) (tick allowance : ℕ) (ledger : Ledger) → ledgerCalls .setUp row tick allowance .said ≡ answer ledger
     → (arrivals : List Arrival) → OfBytes arrivals → Accounted (length row) allowance (afterArrivals router (opened row tick allowance ledger) arrivals)
@@ -230,8 +233,8 @@ AllowanceTheorem = Allowance ledgerRouter
 abbrev pub touchingNothing : Router
 touchingNothing reach ceiling fresh packet = andThen (routed reach ceiling fresh packet) (λ new. answer packet)
 
--- a router with our tests and order that asks its ledger for `wish`, of its ceiling and the request, and decides by `taken`, of its ceiling and the grant; ours has `wishOf`, and takes
--- the grant
+-- a router with our tests and order that asks its ledger for `wish`, of its ceiling and the request, and decides by `taken`, of its ceiling
+-- and the grant; ours has `wishOf`, and takes the grant
 abbrev pub ledgerRouterBy : (ℕ → Option Request → ℕ) → (ℕ → ℕ → ℕ) → LedgerRouter
 ledgerRouterBy wish taken ceiling fresh tick p =
     let reply =

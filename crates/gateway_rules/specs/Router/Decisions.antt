@@ -12,7 +12,8 @@ use Rattle.gateway_rules.specs.declared.Decision.the-variants.{Nothing, 
 unfoldable pub oneLess : ℕ → ℕ
 oneLess ttl = (ttl + 255) % 256
 
--- a request that goes on at another rate: "QS TTL falls by one modulo 256, and the fields between the new and the old rate take the fresh nonce's bits; the rest stay"
+-- a request that goes on at another rate: "QS TTL falls by one modulo 256, and the fields between the new and the old rate take the fresh
+-- nonce's bits; the rest stay"
 abbrev pub approvedAt : ℕ → ℕ → Request → Request
 approvedAt rate fresh r = record { rate = rate; «qs_ttl» = oneLess (r .«qs_ttl»); nonce = lowered (r .rate) rate (r .nonce) fresh }
 

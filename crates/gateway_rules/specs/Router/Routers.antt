@@ -1,4 +1,5 @@
--- Routers on packets (document 01, "Router, receiver, sender", "Ledger" and the order of tests): a router's decision put into the packet's view. Assumes nothing.
+-- Routers on packets (document 01, "Router, receiver, sender", "Ledger" and the order of tests): a router's decision put into the packet's
+-- view. Assumes nothing.
 use Prim.Native.Nat.{ℕ, zero, suc, _-_, min}
 use mathlib.Core.Bool.{Bool, _&&_}
 use mathlib.Core.List.{List}
@@ -45,7 +46,8 @@ abbrev pub wishOf : ℕ → Option Request → ℕ
 wishOf ceiling none = 0
 wishOf ceiling (some r) = min (r .rate) ceiling
 
--- "takes the grant as its ceiling; with no request, or rate or ceiling 0, the ledger is untouched": the ceiling to decide by, and the link afterwards
+-- "takes the grant as its ceiling; with no request, or rate or ceiling 0, the ledger is untouched": the ceiling to decide by, and the link
+-- afterwards
 abbrev pub ceilingFrom : ℕ → Link → ℕ → ℕ → Reply Granted
 ceilingFrom ceiling link tick zero = answer (record { code = ceiling; link = link })
 ceilingFrom ceiling link tick (suc wish) = askReply link tick (suc wish)
@@ -58,7 +60,8 @@ pub record Passage : Type 0 where
 abbrev pub passage : List ℕ → Link → Passage
 passage packet link = record { packet = packet; link = link }
 
--- its reply, with the new packet and the new link. "A router with a ledger tests 7 for all, the packet, then 8 and 9 if it asks the ledger."
+-- its reply, with the new packet and the new link. "A router with a ledger tests 7 for all, the packet, then 8 and 9 if it asks the
+-- ledger."
 abbrev pub routedByLedger : ℕ → ℕ → ℕ → ℕ → Passage → Reply Passage
 routedByLedger reach ceiling fresh tick p =
     pick (routerInRange ceiling fresh && linkInRange (length (p .link .row)) (p .link .ledger .allowance))

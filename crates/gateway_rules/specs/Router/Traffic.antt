@@ -1,5 +1,5 @@
--- Packets through one router with one ledger, one after the other, and the rates that the router left in them. It is defined for any such router, so that a claim about it can be
--- made of ours and of others. Assumes nothing.
+-- Packets through one router with one ledger, one after the other, and the rates that the router left in them. It is defined for any such
+-- router, so that a claim about it can be made of ours and of others. Assumes nothing.
 use Prim.Native.Nat.{ℕ}
 use mathlib.Core.List.{List, [], _∷_}
 use mathlib.Core.Option.{Option, none, some}

@@ -1,4 +1,5 @@
--- `hops::survey` meets its contract: what has been summed up, joined with the summary of what is left, is the summary of all; and what is left ends where all does. Assumes nothing.
+-- `hops::survey` meets its contract: what has been summed up, joined with the summary of what is left, is the summary of all; and what is
+-- left ends where all does. Assumes nothing.
 use Prim.Native.Nat.{_+_, _-_, _≤_}
 use mathlib.Core.Option.{some}
 use mathlib.Core.Path.{_≡_, sym, ap, _∙_}

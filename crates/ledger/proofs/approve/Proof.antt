@@ -1,4 +1,5 @@
--- `ledger::approve` meets its contract: the row's total is within the allowance, so the sum that stops is the total, and what is granted has room. Assumes nothing.
+-- `ledger::approve` meets its contract: the row's total is within the allowance, so the sum that stops is the total, and what is granted
+-- has room. Assumes nothing.
 use Prim.Native.Nat.{ℕ, _-_}
 use mathlib.Core.Path.{_≡_, ap, _∙_}
 use native.Mathlib.Omega.{arith}

@@ -1,4 +1,5 @@
--- `ledger::ask` meets its contract: past the test of the code it replies as moving on does, and grants from the link that moving on left. Assumes nothing.
+-- `ledger::ask` meets its contract: past the test of the code it replies as moving on does, and grants from the link that moving on left.
+-- Assumes nothing.
 use mathlib.Core.Bool.{true}
 use mathlib.Core.List.{List}
 use mathlib.Core.Path.{_≡_, sym, ap, subst, _∙_}

@@ -1,4 +1,5 @@
--- `ledger::clear_passed` meets its contract. The loop's invariant: the slots of the ticks after the old one up to t are zeroed. Assumes nothing.
+-- `ledger::clear_passed` meets its contract. The loop's invariant: the slots of the ticks after the old one up to t are zeroed. Assumes
+-- nothing.
 use Prim.Native.Nat.{ℕ, _+_, _-_, _%_, _≤_}
 use mathlib.Core.List.{List}
 use mathlib.Core.Path.{_≡_, refl, sym, ap, _∙_}

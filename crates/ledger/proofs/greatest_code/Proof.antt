@@ -1,4 +1,5 @@
--- `ledger::greatest_code` meets its contract: with the codes limited, the greatest is the lesser of the limit and the code rounded down. Assumes nothing.
+-- `ledger::greatest_code` meets its contract: with the codes limited, the greatest is the lesser of the limit and the code rounded down.
+-- Assumes nothing.
 use native.Mathlib.Omega.{arith}
 use Rattle.wire_rules.proofs.Rates.StepLaws.{limited}
 use borrow.Author.Needs.{needs}

@@ -1,4 +1,5 @@
--- `ledger::move_on` meets its contract: each return follows from the tests before it, and after the last test the passed slots are zeroed. Assumes nothing.
+-- `ledger::move_on` meets its contract: each return follows from the tests before it, and after the last test the passed slots are zeroed.
+-- Assumes nothing.
 use Prim.Native.Nat.{ℕ, _<_}
 use mathlib.Core.Bool.{true}
 use mathlib.Core.List.{List}

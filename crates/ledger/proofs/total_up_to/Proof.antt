@@ -1,5 +1,5 @@
--- `ledger::total_up_to` meets its contract. The loop's invariant: the sum so far and the total of the slots left make the row's total, and the sum is within the limit.
--- Assumes nothing.
+-- `ledger::total_up_to` meets its contract. The loop's invariant: the sum so far and the total of the slots left make the row's total, and
+-- the sum is within the limit. Assumes nothing.
 use Prim.Native.Nat.{_≤_, _+_, _-_}
 use mathlib.Core.Path.{_≡_, ap}
 use native.Mathlib.Omega.{arith}

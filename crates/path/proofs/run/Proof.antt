@@ -1,4 +1,5 @@
--- `path::run` meets its contract: the row, the numbers, the packet and the state are tested, then the run is that of its parts. Assumes nothing.
+-- `path::run` meets its contract: the row, the numbers, the packet and the state are tested, then the run is that of its parts. Assumes
+-- nothing.
 use mathlib.Core.Bool.{true}
 use mathlib.Core.Path.{_≡_, sym, ap, _∙_}
 use Rattle.common.proofs.Choice.{held, failed}

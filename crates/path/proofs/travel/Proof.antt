@@ -1,4 +1,5 @@
--- `path::travel` meets its contract: the travel over what is left, with the packet as the last hop left it, ends as the whole travel does. Assumes nothing.
+-- `path::travel` meets its contract: the travel over what is left, with the packet as the last hop left it, ends as the whole travel does.
+-- Assumes nothing.
 use Prim.Native.Nat.{_+_, _≤_}
 use mathlib.Core.Option.{some}
 use mathlib.Core.Path.{_≡_, sym, ap, _∙_}

@@ -1,4 +1,5 @@
--- Laws of rows and their spellings: what stands in front of some bytes, which bytes are read as which routers, and how long a spelling is. Assumes nothing.
+-- Laws of rows and their spellings: what stands in front of some bytes, which bytes are read as which routers, and how long a spelling is.
+-- Assumes nothing.
 use Prim.Native.Nat.{ℕ, zero, suc, _+_, _*_, _/_, _%_, _≤_, _<_, zero-le}
 use mathlib.Core.Bool.{Bool, true, false}
 use mathlib.Core.List.{List, [], _∷_, _++_, append-nil, append-assoc}

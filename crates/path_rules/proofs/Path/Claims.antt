@@ -1,4 +1,5 @@
--- The claims of specs/Path/Claims.antt, each under its own name; `running`, `callLaw` and `leaving` stand in RunClaims.antt. Assumes nothing.
+-- The claims of specs/Path/Claims.antt, each under its own name; `running`, `callLaw` and `leaving` stand in RunClaims.antt. Assumes
+-- nothing.
 use Rattle.sender_rules.proofs.Sender.AskClaims.{freshAsks}
 use Rattle.path_rules.specs.Path.Runs.{pathCalls}
 use Rattle.path_rules.specs.Path.Claims.{PathLaw, NotEmpty, ShutOut}

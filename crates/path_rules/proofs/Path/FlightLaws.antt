@@ -36,8 +36,9 @@ agree-0 n m = omega arith
 
 -- ---- between two hops
 
--- what holds of a request with `s` silent routers behind it: its rate is at most the code asked, and unless it is denied its TTL Diff is short by `s`; its nonce agrees with the
--- sender's up to its rate. A denied request has all of this for nothing, so that it needs no case of its own
+-- what holds of a request with `s` silent routers behind it: its rate is at most the code asked, and unless it is denied its TTL Diff is
+-- short by `s`; its nonce agrees with the sender's up to its rate. A denied request has all of this for nothing, so that it needs no case
+-- of its own
 pub record Flying (q : OpenRequest) (s ttl : ℕ) (r : Request) : Type 0 where
   pub below : r .rate ≤ q .code
   pub byte : r .«qs_ttl» < 256

@@ -1,4 +1,5 @@
--- The claims on the call of a run: which refusal is given, that there is no other such call, what can arise of a run that started, what a run leaves, and demand 3 of the call on bytes. Assumes nothing.
+-- The claims on the call of a run: which refusal is given, that there is no other such call, what can arise of a run that started, what a
+-- run leaves, and demand 3 of the call on bytes. Assumes nothing.
 use Prim.Native.Nat.{ℕ, _≤_, _<_, min}
 use mathlib.Core.Bool.{true, false, _&&_}
 use mathlib.Core.List.{List, [], _∷_, List·Permᴰ}

@@ -1,5 +1,5 @@
--- Demand 3 of the calls over a row of hop records, and the calls that it shuts out. Which rows are read, the two calls, and that the two forms agree, stand in RowClaims; the calls for C in ResultClaims.
--- Assumes nothing.
+-- Demand 3 of the calls over a row of hop records, and the calls that it shuts out. Which rows are read, the two calls, and that the two
+-- forms agree, stand in RowClaims; the calls for C in ResultClaims. Assumes nothing.
 use Prim.Native.Nat.{ℕ, _+_, _≤_}
 use mathlib.Core.List.{List, [], _∷_, _++_}
 use mathlib.Core.Path.{_≡_, refl, sym, ap, ap₂, subst, _∙_}
@@ -139,7 +139,8 @@ lent hops r few =
     let long = routers-long hops in
     record { demanded = demanded 64 (over (routersOf hops)) (plan-in (routersOf hops) (routers-in hops r) (omega (arith, long, few))); row-is = refl; hops-in = r; few = few }
 
--- a row in which a hop is silent, and another whose hops are all knowing: a call that looks at the second in place of the first accepts, and demand 3 does not
+-- a row in which a hop is silent, and another whose hops are all knowing: a call that looks at the second in place of the first accepts,
+-- and demand 3 does not
 module _ (other : List Hop → List Hop) (hops : List Hop) (in-first : HopsInRange hops) (few-first : length hops ≤ 64) (not-all : AllKnow (routersOf hops) → ⊥)
     (in-other : HopsInRange (other hops)) (few-other : length (other hops) ≤ 64) (passes : Passable (givenFor (over (routersOf (other hops))))) where
   abbrev g : Setting

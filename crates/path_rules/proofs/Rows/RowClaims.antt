@@ -1,4 +1,5 @@
--- The claims on rows of hop records: which rows are read, that they agree with rows as bytes, and which calls over them there are. Assumes nothing.
+-- The claims on rows of hop records: which rows are read, that they agree with rows as bytes, and which calls over them there are. Assumes
+-- nothing.
 use Prim.Native.Nat.{ℕ, suc, _≤_, _<_}
 use mathlib.Core.Bool.{Bool, true, false, _&&_}
 use mathlib.Core.List.{List, [], _∷_}

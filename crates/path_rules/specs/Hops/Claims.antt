@@ -1,5 +1,5 @@
--- What is claimed of rows, summaries and verdicts beyond the contracts: which bytes are a row and of which routers, what a summary counts, joining, and the order of a verdict's tests.
--- Kinds, lengths and ranges are the paper's numbers. Assumes nothing.
+-- What is claimed of rows, summaries and verdicts beyond the contracts: which bytes are a row and of which routers, what a summary counts,
+-- joining, and the order of a verdict's tests. Kinds, lengths and ranges are the paper's numbers. Assumes nothing.
 use Prim.Native.Nat.{ℕ, suc, _+_, _*_, _/_, _≤_, _<_, min}
 use mathlib.Core.Bool.{true}
 use mathlib.Core.List.{List, [], _∷_, _++_, List·Permᴰ}
@@ -16,7 +16,8 @@ use Rattle.path_rules.specs.Hops.Verdicts.{Verdict, lost, unanswered, no
 
 -- ---- rows
 
--- bytes that spell a list of routers, record by record: 2, the ceiling, and a big-endian word whose upper 30 bits are the fresh nonce and whose two lowest bits are anything; or 3 alone
+-- bytes that spell a list of routers, record by record: 2, the ceiling, and a big-endian word whose upper 30 bits are the fresh nonce and
+-- whose two lowest bits are anything; or 3 alone
 pub data Spells : List Router → List ℕ → Type 0 where
   no-record : Spells [] []
   record-2 : (ceiling fresh a b c d : ℕ) (routers : List Router) (bytes : List ℕ) → ceiling ≤ 15 → (a * 16777216 + b * 65536 + c * 256 + d) / 4 ≡ fresh → Spells routers bytes
@@ -37,7 +38,8 @@ unfoldable pub spelled : List Router → List ℕ
 spelled [] = []
 spelled (router ∷ rest) = recordOf router ++ spelled rest
 
--- a row is what spells a list of routers that is not longer than the limit; it is then read as that list, and as no other; anything else gives 7
+-- a row is what spells a list of routers that is not longer than the limit; it is then read as that list, and as no other; anything else
+-- gives 7
 pub record Rows : Type 0 where
   pub reads : (limit : ℕ) (routers : List Router) (bytes : List ℕ) → Spells routers bytes → length routers ≤ limit → rowOf limit bytes ≡ answer routers
   pub only : (limit : ℕ) (routers : List Router) (bytes : List ℕ) → rowOf limit bytes ≡ answer routers → Spells routers bytes × (length routers ≤ limit)
@@ -101,8 +103,8 @@ pub record VerdictGiven (s : Summary) (ttl code ceiling : ℕ) : Type 0 where
   pub code-high : code ≤ 15
   pub ceiling-high : ceiling ≤ 15
 
--- "in this order: lost when the starting TTL is at most its routers; unanswered when the least of the code asked, its ceiling and the receiver's is 0; 14 when a router is silent;
--- accepted at that least"
+-- "in this order: lost when the starting TTL is at most its routers; unanswered when the least of the code asked, its ceiling and the
+-- receiver's is 0; 14 when a router is silent; accepted at that least"
 pub record Judging (judge : Judge) : Type 0 where
   pub seven : (s : Summary) (ttl code ceiling : ℕ) → (VerdictGiven s ttl code ceiling → ⊥) → judge s ttl code ceiling ≡ refuse 7
   pub loses : (s : Summary) (ttl code ceiling : ℕ) → VerdictGiven s ttl code ceiling → ttl ≤ s .routers → judge s ttl code ceiling ≡ answer lost

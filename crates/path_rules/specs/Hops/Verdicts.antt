@@ -20,8 +20,8 @@ pub data Verdict : Type 0 where
 abbrev pub leastOf : Summary → ℕ → ℕ → ℕ
 leastOf s code ceiling = min (min code (s .least)) ceiling
 
--- "A summary's verdict is, in this order: lost when the starting TTL is at most its routers; unanswered when the least of the code asked, its ceiling and the receiver's is 0; 14
--- when a router is silent; accepted at that least."
+-- "A summary's verdict is, in this order: lost when the starting TTL is at most its routers; unanswered when the least of the code asked,
+-- its ceiling and the receiver's is 0; 14 when a router is silent; accepted at that least."
 unfoldable pub verdictOf : Summary → ℕ → ℕ → ℕ → Verdict
 verdictOf s ttl code ceiling =
     pick (leb ttl (s .routers)) lost

@@ -1,5 +1,6 @@
--- What is claimed of a path: demand 3, whole. `Demand3` is a predicate over the calls of any path; ours has it, and paths with one wrong part do not. Besides: which refusal a run gives,
--- what can arise after it has started and what it leaves, and that there is always something to run. Ranges are the paper's numbers. Assumes nothing.
+-- What is claimed of a path: demand 3, whole. `Demand3` is a predicate over the calls of any path; ours has it, and paths with one wrong
+-- part do not. Besides: which refusal a run gives, what can arise after it has started and what it leaves, and that there is always
+-- something to run. Ranges are the paper's numbers. Assumes nothing.
 use Prim.Native.Nat.{ℕ, _+_, _≤_, _<_, min}
 use mathlib.Core.List.{List, [], _∷_, _++_, List·Permᴰ}
 use mathlib.Core.Logic.{_⊎_}
@@ -40,7 +41,8 @@ use Rattle.path_rules.specs.Path.Demands.{Setting, verdictBy, plain}
 
 -- ---- what demand 3 starts from
 
--- "a request packet without fault (checks 1, 2, 3 and 5), in which the walk finds the option as the sender wrote it and whose IP TTL is the starting TTL the sender was given"
+-- "a request packet without fault (checks 1, 2, 3 and 5), in which the walk finds the option as the sender wrote it and whose IP TTL is the
+-- starting TTL the sender was given"
 pub record Carried (option : List ℕ) (ttl : ℕ) (packet : List ℕ) : Type 0 where
   pub bytes : Bytes packet
   pub place : ℕ
@@ -57,8 +59,9 @@ pub record TransportGiven (t : Transport) : Type 0 where
   pub headers-low : 20 ≤ t .headers
   pub headers-high : t .headers ≤ 120
 
--- the asking was accepted, so that its numbers and the record are in range; the packet carries the request that it wrote; the response comes "while that request is open", to a record in the
--- state that asking left; and "all numbers in their ranges". Of the list of routers there is no limit
+-- the asking was accepted, so that its numbers and the record are in range; the packet carries the request that it wrote; the response
+-- comes "while that request is open", to a record in the state that asking left; and "all numbers in their ranges". Of the list of routers
+-- there is no limit
 pub record Demanded (calls : Calls) (g : Setting) : Type 0 where
   pub qs-byte : g .wish .qs < 256
   pub asked : calls .ask (g .connection) (g .wish) (g .buffer) .said ≡ answer tt
@@ -82,7 +85,8 @@ AllAllow [] = Unit {0}
 AllAllow (Knowing ceiling fresh ∷ rest) = (1 ≤ ceiling) × AllAllow rest
 AllAllow (Silent ∷ rest) = AllAllow rest
 
--- "its starting TTL is greater than the number of routers, every router knows Quick-Start, and every router and the receiver allow at least step 1"
+-- "its starting TTL is greater than the number of routers, every router knows Quick-Start, and every router and the receiver allow at least
+-- step 1"
 pub record Passable (g : Setting) : Type 0 where
   pub outlasts : length (g .routers) < g .wish .ttl
   pub all-know : AllKnow (g .routers)
@@ -149,7 +153,8 @@ pub record Demand3 (calls : Calls) : Type 0 where
   -- "a sender asking for step 1 to 15 accepts exactly when .. The rate is then the least of the request and all ceilings."
   pub accepting : Accepting calls
   pub cutting : Cutting calls
-  -- "So does every order of the same routers", each with its own nonce; records, packets, T, MSS and H, starting QS TTLs and the sender's nonces may differ too: they do not matter
+  -- "So does every order of the same routers", each with its own nonce; records, packets, T, MSS and H, starting QS TTLs and the sender's
+  -- nonces may differ too: they do not matter
   pub order : (g h : Setting) → Demanded calls g → Demanded calls h → List·Permᴰ (g .routers) (h .routers) → g .wish .ttl ≡ h .wish .ttl → g .wish .code ≡ h .wish .code
       → g .ceiling ≡ h .ceiling → verdictBy calls g ≡ verdictBy calls h
   -- "lost (a router gave 6)": nothing else ends a travel, however long the path

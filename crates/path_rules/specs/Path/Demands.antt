@@ -8,8 +8,8 @@ use Rattle.path_rules.specs.declared.Router.{Router}
 use Rattle.path_rules.specs.Hops.Verdicts.{Verdict}
 use Rattle.path_rules.specs.Path.Runs.{Calls, runBy}
 
--- the record before the asking, what is asked, and the buffer for the request; the packet that goes out; the record when the response comes; T, MSS and H; the receiver's ceiling and
--- the routers
+-- the record before the asking, what is asked, and the buffer for the request; the packet that goes out; the record when the response
+-- comes; T, MSS and H; the receiver's ceiling and the routers
 pub record Setting : Type 0 where
   pub connection : Connection
   pub wish : Wish

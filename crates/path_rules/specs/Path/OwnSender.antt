@@ -1,4 +1,5 @@
--- The sender that the program qspath and the calls for C run a path with, where nobody lends a connection. Document 01 leaves its five numbers open; no verdict depends on them. Assumes nothing.
+-- The sender that the program qspath and the calls for C run a path with, where nobody lends a connection. Document 01 leaves its five
+-- numbers open; no verdict depends on them. Assumes nothing.
 use Prim.Native.Nat.{ℕ}
 use Rattle.sender_rules.specs.Sender.Calls.{Transport, transport}
 

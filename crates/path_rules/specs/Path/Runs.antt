@@ -1,5 +1,5 @@
--- The run of a path (document 01, "Path, program and callers"): the hops' travel to a packet or "lost", then receiver and sender. It is told for any calls, so that a claim about it
--- can be made of ours and of others. Assumes nothing.
+-- The run of a path (document 01, "Path, program and callers"): the hops' travel to a packet or "lost", then receiver and sender. It is
+-- told for any calls, so that a claim about it can be made of ours and of others. Assumes nothing.
 use Prim.Native.Nat.{ℕ}
 use mathlib.Core.Bool.{Bool, _&&_}
 use mathlib.Core.List.{List, [], _∷_}
@@ -29,7 +29,8 @@ use Rattle.path_rules.specs.Hops.Verdicts.{Verdict}
 pub record Calls : Type 0 where
   -- the sender asks: it writes a request into a buffer
   pub ask : Connection → Wish → List ℕ → Outcome (Unit {0}) Sending
-  -- the routers of the path, on the packet as the last one left it. It is one call, so that a claim can tell a travel that leaves routers out
+  -- the routers of the path, on the packet as the last one left it. It is one call, so that a claim can tell a travel that leaves routers
+  -- out
   pub travel : List Router → List ℕ → Outcome (Unit {0}) (List ℕ)
   -- the receiver with its ceiling
   pub receive : ℕ → List ℕ → Reply Report
@@ -90,7 +91,8 @@ abbrev pub blank : List ℕ
 blank = replicate optionLength 0
 
 module _ (calls : Calls) (c : Connection) (t : Transport) where
-  -- "if it answers, the response call with its bytes and the state that asking left". A receiver's refusal is told as the sender's would be; that none arises is claimed
+  -- "if it answers, the response call with its bytes and the state that asking left". A receiver's refusal is told as the sender's would
+  -- be; that none arises is claimed
   abbrev pub concluded : List ℕ → Reply Report → Run
   concluded packet (answer unanswered) = ran Verdicts.unanswered packet c
   concluded packet (answer (reported r)) =
@@ -98,7 +100,8 @@ module _ (calls : Calls) (c : Connection) (t : Transport) where
       ran (saidOf (outcome .said)) packet (outcome .left)
   concluded packet (refuse n) = ran (Verdicts.notAccepted n) packet c
 
-  -- "lost (a router gave 6)", or else "then the receiver". Every refusal that ends a travel is told as lost; that none but a 6 arises is claimed
+  -- "lost (a router gave 6)", or else "then the receiver". Every refusal that ends a travel is told as lost; that none but a 6 arises is
+  -- claimed
   abbrev pub arrived : ℕ → Reply (Unit {0}) → List ℕ → Run
   arrived ceiling (answer _) packet = concluded packet (calls .receive ceiling packet)
   arrived ceiling (refuse n) packet = ran Verdicts.lost packet c
@@ -122,8 +125,8 @@ whereAsked (some r) reply = reply
 abbrev pub startReply : Connection → List ℕ → Reply (Unit {0})
 startReply c packet = andThen (view (length packet) packet) (λ v. whereAsked (v .request) (whileAsked (c .state) (λ request. answer tt)))
 
--- a run over a row of hops, by the routers that it is read as or the refusal, whatever form it is lent in. All is tested before a byte changes: 7 for the row and all numbers, then
--- the tests of `startReply`
+-- a run over a row of hops, by the routers that it is read as or the refusal, whatever form it is lent in. All is tested before a byte
+-- changes: 7 for the row and all numbers, then the tests of `startReply`
 abbrev pub runOver : Reply (List Router) → Connection → List ℕ → ℕ → Transport → Reply Run
 runOver row c packet ceiling t =
     andThen row (λ routers.

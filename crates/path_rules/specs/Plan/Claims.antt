@@ -1,6 +1,6 @@
--- What is claimed of the program's input and its line: which inputs spell a run, where a bad one breaks, that no more than so many bytes need be read, and what the line says of a path
--- and tells of the input.
--- Kinds, lengths and ranges are the paper's numbers. Assumes nothing.
+-- What is claimed of the program's input and its line: which inputs spell a run, where a bad one breaks, that no more than so many bytes
+-- need be read, and what the line says of a path and tells of the input. Kinds, lengths and ranges are the paper's numbers. Assumes
+-- nothing.
 use Prim.Native.Nat.{ℕ, _+_, _-_, _*_, _/_, _≤_, _<_}
 use mathlib.Core.List.{List, [], _∷_, _++_}
 use mathlib.Core.Logic.{_⊎_}
@@ -20,7 +20,8 @@ use Rattle.path_rules.specs.Plan.Lines.{decimal, verdictLine, badLine, l
 
 -- ---- what spells a run
 
--- "1 request (code, IP TTL, QS TTL, word: 7 bytes)", "A code is 1 to 15 .., and IP TTL is not 0": the word's upper 30 bits are the nonce, and its two lowest are anything
+-- "1 request (code, IP TTL, QS TTL, word: 7 bytes)", "A code is 1 to 15 .., and IP TTL is not 0": the word's upper 30 bits are the nonce,
+-- and its two lowest are anything
 pub record SpellsRequest (code ttl qs nonce : ℕ) (bytes : List ℕ) : Type 0 where
   pub a : ℕ
   pub b : ℕ
@@ -89,7 +90,8 @@ NoRouter bytes = (router : Router) (own more : List ℕ) → Spells (router ∷ 
 abbrev pub NoReceiver : List ℕ → Type 0
 NoReceiver bytes = (ceiling : ℕ) (own more : List ℕ) → SpellsReceiver ceiling own → bytes ≡ own ++ more → ⊥
 
--- good records in their order, and behind them bytes that no allowed record starts: a request first; then routers up to the limit, or the receiver; then the end
+-- good records in their order, and behind them bytes that no allowed record starts: a request first; then routers up to the limit, or the
+-- receiver; then the end
 pub data Breaks (limit : ℕ) : List ℕ → List ℕ → Type 0 where
   at-request : (rest : List ℕ) → NoRequest rest → Breaks limit [] rest
   at-hop : (p : Plan) (front rest : List ℕ) → SpellsFront limit p front → NoReceiver rest → (length (p .routers) ≡ limit) ⊎ NoRouter rest → Breaks limit front rest
@@ -119,7 +121,8 @@ FormatOnly = (read : ℕ → List ℕ → Reading) → Format read → (limit : 
 
 -- ---- how much need be read
 
--- the longest run has 8 bytes, 6 for each router and 2; one byte more tells an input that is longer, and what stands behind it takes no part
+-- the longest run has 8 bytes, 6 for each router and 2; one byte more tells an input that is longer, and what stands behind it takes no
+-- part
 pub record Enough : Type 0 where
   pub longest : (limit : ℕ) (p : Plan) (input : List ℕ) → readPlan limit input ≡ good p → length input ≤ 6 * limit + 10
   pub furthest : (limit at : ℕ) (input : List ℕ) → readPlan limit input ≡ bad at → at ≤ 6 * limit + 10
@@ -155,7 +158,8 @@ pub record Line : Type 0 where
   -- `bad AT`, before all else; up to 1664 routers AT has at most four digits
   pub bad-at : (limit at : ℕ) (input : List ℕ) → limit ≤ 1664 → readPlan limit input ≡ bad at
       → (lineOf limit input ≡ (98 ∷ 97 ∷ 100 ∷ 32 ∷ []) ++ (decimal at ++ (10 ∷ []))) × (at < 10000)
-  -- for a good input it is the verdict of the path: of every run of demand 3 with these numbers, on whatever connection, packet, T, MSS and H
+  -- for a good input it is the verdict of the path: of every run of demand 3 with these numbers, on whatever connection, packet, T, MSS and
+  -- H
   pub of-run : (limit : ℕ) (p : Plan) (input : List ℕ) (g : Setting) → Bytes input → readPlan limit input ≡ good p → Demanded pathCalls g → g .routers ≡ p .routers
       → g .wish .ttl ≡ p .ttl → g .wish .code ≡ p .code → g .ceiling ≡ p .ceiling → lineOf limit input ≡ verdictLine (verdictBy pathCalls g)
   -- and there is such a run

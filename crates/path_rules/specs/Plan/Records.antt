@@ -1,4 +1,5 @@
--- The program's input (document 01, "Path, program and callers"): records that spell one run, or the offset of the first that breaks it. Assumes nothing.
+-- The program's input (document 01, "Path, program and callers"): records that spell one run, or the offset of the first that breaks it.
+-- Assumes nothing.
 use Prim.Native.Nat.{ℕ, _+_, _-_}
 use mathlib.Core.Bool.{Bool, _&&_}
 use mathlib.Core.List.{List}
@@ -36,7 +37,8 @@ receiverRecord = 4
 abbrev pub receiverLength : ℕ
 receiverLength = 1 + 1
 
--- a whole request record whose numbers are in range stands in front of some bytes: "A code is 1 to 15 .., and IP TTL is not 0"; where a byte is missing, it reads as 0
+-- a whole request record whose numbers are in range stands in front of some bytes: "A code is 1 to 15 .., and IP TTL is not 0"; where a
+-- byte is missing, it reads as 0
 unfoldable pub startsRequest : List ℕ → Bool
 startsRequest bytes =
     eqb (getD bytes 0 0) requestRecord && leb requestLength (length bytes) && within 1 (getD bytes 1 0) topCode && ltb 0 (getD bytes 2 0)
@@ -59,8 +61,8 @@ planOf input hops = record {
   ceiling = getD (hops .rest) 1 0;
 }
 
--- "One run is a 1, up to 64 of 2 and 3, and a 4, then end of input." Else "the offset of the first record that breaks this; a record cut short counts at its kind byte, a missing
--- record at the length". The limit on routers is an argument
+-- "One run is a 1, up to 64 of 2 and 3, and a 4, then end of input." Else "the offset of the first record that breaks this; a record cut
+-- short counts at its kind byte, a missing record at the length". The limit on routers is an argument
 unfoldable pub readPlan : ℕ → List ℕ → Reading
 readPlan limit input =
     let hops = hopsOf limit input in

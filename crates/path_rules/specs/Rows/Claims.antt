@@ -1,5 +1,5 @@
--- What is claimed of rows of hop records beyond the contracts: which rows are read and as which routers, that they agree with rows as bytes, demand 3 of the calls over them, and what the
--- calls for C answer. Ranges are the paper's numbers. Assumes nothing.
+-- What is claimed of rows of hop records beyond the contracts: which rows are read and as which routers, that they agree with rows as
+-- bytes, demand 3 of the calls over them, and what the calls for C answer. Ranges are the paper's numbers. Assumes nothing.
 use Prim.Native.Nat.{ℕ, _+_, _≤_, _<_}
 use mathlib.Core.Bool.{true, false}
 use mathlib.Core.List.{List, [], _∷_, _++_, List·Permᴰ}
@@ -130,7 +130,8 @@ pub record OnHops (sum : HopSum) (run : HopRun) : Type 0 where
   pub accepts : (g : Setting) (hops : List Hop) → Lent g hops → Passable g → saidOver run g hops ≡ answer (accepted (leastAlong (g .wish .code) (g .routers) (g .ceiling)))
   pub only : (g : Setting) (hops : List Hop) → Lent g hops → (rate : ℕ) → saidOver run g hops ≡ answer (accepted rate)
       → Passable g × (rate ≡ leastAlong (g .wish .code) (g .routers) (g .ceiling))
-  -- "At whichever places the path is cut": the parts summed up and joined by the calls, and judged, say what the run over the whole row says
+  -- "At whichever places the path is cut": the parts summed up and joined by the calls, and judged, say what the run over the whole row
+  -- says
   pub cutting : (g : Setting) (cut : HopCut) → Lent g (wholeHops cut)
       → andThen (summedHops sum cut) (λ s. verdictReply s (g .wish .ttl) (g .wish .code) (g .ceiling)) ≡ saidOver run g (wholeHops cut)
   -- "So does every order of the same routers", each with its own nonce
@@ -176,7 +177,8 @@ pub record ShutOutBy (other : List Hop → List Hop) : Type 0 where
   pub sum : (run : HopRun) → OnHops (sumOn other) run → ⊥
 
 pub record HopShutOut : Type 0 where
-  -- a row whose last hop is not looked at; a silent hop taken for a knowing one; "a path walk that asks the first router and lets the others pass"
+  -- a row whose last hop is not looked at; a silent hop taken for a knowing one; "a path walk that asks the first router and lets the
+  -- others pass"
   pub last-left-out : ShutOutBy butLast
   pub silent-as-knowing : ShutOutBy allKnowing
   pub first-only : ShutOutBy firstHop
@@ -214,7 +216,8 @@ CanBe Refusal (answer (notAccepted n)) = (13 ≤ n) × (n ≤ 15)
 CanBe Refusal (answer (accepted rate)) = (1 ≤ rate) × (rate ≤ 15)
 
 pub record ForC : Type 0 where
-  -- every run over a packet of bytes answers one of these, and no two of them have the same number; over the record that is made for C there is no 11
+  -- every run over a packet of bytes answers one of these, and no two of them have the same number; over the record that is made for C
+  -- there is no 11
   pub can-be : (c : Connection) (packet : List ℕ) (hops : List Hop) (ceiling : ℕ) (t : Transport) → Bytes packet → CanBe RefusableOr11 (hopsCall 64 c packet hops ceiling t .said)
   pub never-11 : (code diff nonce : ℕ) (packet : List ℕ) (hops : List Hop) (ceiling : ℕ) (t : Transport) → Bytes packet
       → CanBe Refusable (hopsCall 64 (openFor code diff nonce) packet hops ceiling t .said)

@@ -1,5 +1,5 @@
--- What the functions for C answer with and leave. A refusal of the table, 1 to 15, says that nothing was changed; the summary's 0, and every verdict's number, that the call was made.
--- Assumes nothing.
+-- What the functions for C answer with and leave. A refusal of the table, 1 to 15, says that nothing was changed; the summary's 0, and
+-- every verdict's number, that the call was made. Assumes nothing.
 use Prim.Native.Nat.{ℕ, _+_, _%_}
 use mathlib.Core.List.{List, [], _∷_}
 use lib.Dec.{eqb}
@@ -29,7 +29,8 @@ summaryResult (refuse n) = n
 abbrev pub openFor : ℕ → ℕ → ℕ → Connection
 openFor code diff nonce = withState (freshWith window ssthresh) (Asked (record { code = code; «ttl_diff» = diff; nonce = nonce }))
 
--- 42 for lost, 40 for unanswered, 200 more than the sender's refusal, 100 more than the rate accepted; a refused run its refusal. A rate that arises is at most 15, its own remainder
+-- 42 for lost, 40 for unanswered, 200 more than the sender's refusal, 100 more than the rate accepted; a refused run its refusal. A rate
+-- that arises is at most 15, its own remainder
 abbrev pub verdictResult : Reply Verdict → ℕ
 verdictResult (answer lost) = 42
 verdictResult (answer unanswered) = 40

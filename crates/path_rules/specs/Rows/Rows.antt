@@ -1,5 +1,5 @@
--- Rows of hops as records, and the calls over them (document 01, "Path, program and callers"). They are told by the same definitions as the calls on rows of bytes, over the routers that
--- the row stands for. Assumes nothing.
+-- Rows of hops as records, and the calls over them (document 01, "Path, program and callers"). They are told by the same definitions as the
+-- calls on rows of bytes, over the routers that the row stands for. Assumes nothing.
 use Prim.Native.Nat.{ℕ}
 use mathlib.Core.Bool.{Bool, true, _&&_}
 use mathlib.Core.List.{List, [], _∷_}

@@ -1,4 +1,5 @@
--- `qspath::answer` keeps to its buffers: it reads no more than it was lent, and no line is longer than the array of its text. Assumes nothing.
+-- `qspath::answer` keeps to its buffers: it reads no more than it was lent, and no line is longer than the array of its text. Assumes
+-- nothing.
 use Prim.Native.Nat.{ℕ, _+_, _≤_}
 use mathlib.Core.List.{List, _++_}
 use mathlib.Core.Path.{_≡_, sym, subst}

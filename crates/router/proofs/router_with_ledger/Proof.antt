@@ -1,4 +1,5 @@
--- `router::router_with_ledger` meets its contract: past the tests of its numbers it answers what it met, asks its ledger if there is something to ask, and sends the packet on with the grant. Assumes nothing.
+-- `router::router_with_ledger` meets its contract: past the tests of its numbers it answers what it met, asks its ledger if there is
+-- something to ask, and sends the packet on with the grant. Assumes nothing.
 use Prim.Native.Nat.{ℕ}
 use mathlib.Core.Bool.{true, _&&_}
 use mathlib.Core.List.{List}

@@ -1,4 +1,5 @@
--- `router::send_on` meets its contract: passing on what the decision left is never refused, and is the decision put into the view. Assumes nothing.
+-- `router::send_on` meets its contract: passing on what the decision left is never refused, and is the decision put into the view. Assumes
+-- nothing.
 use Prim.Native.Nat.{ℕ}
 use mathlib.Core.List.{List}
 use mathlib.Core.Path.{ap, _∙_}

@@ -1,7 +1,7 @@
--- `rows::qs_path_run` meets its contract: a walk of its MIR, by hand: three calls, of which the proof knows only that each meets its contract.
--- The row is Copy: what it owns is had twice; one copy goes to `run_hops`, with the tokens of both lifetimes, which come back, and one is kept for the exit.
--- The packet is passed on to `run_hops` at its own lifetime, share and ghost name, and given up for good: what `run_hops` says of its last bytes is what is said of them at exit.
--- Assumes nothing.
+-- `rows::qs_path_run` meets its contract: a walk of its MIR, by hand: three calls, of which the proof knows only that each meets its
+-- contract. The row is Copy: what it owns is had twice; one copy goes to `run_hops`, with the tokens of both lifetimes, which come back,
+-- and one is kept for the exit. The packet is passed on to `run_hops` at its own lifetime, share and ghost name, and given up for good:
+-- what `run_hops` says of its last bytes is what is said of them at exit. Assumes nothing.
 use mathlib.Core.Path.{_≡_, refl, _∙_, ap}
 use Prim.Native.Nat.{ℕ, _<_, _^_}
 use mathlib.Core.List.{List, [], _∷_}

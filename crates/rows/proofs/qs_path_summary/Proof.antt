@@ -1,7 +1,7 @@
--- `rows::qs_path_summary` meets its contract: a walk of its MIR, by hand: two calls, of which the proof knows only that each meets its contract.
--- The row is Copy: what it owns is had twice; one copy goes to `summarize_hops`, with its lifetime's token, which comes back, and one is kept for the exit.
--- The numbers' slice is passed on to `put_summary` at its own lifetime, share and ghost name, and given up for good: what `put_summary` says of the last list is what is said of `summary` at exit.
--- Assumes nothing.
+-- `rows::qs_path_summary` meets its contract: a walk of its MIR, by hand: two calls, of which the proof knows only that each meets its
+-- contract. The row is Copy: what it owns is had twice; one copy goes to `summarize_hops`, with its lifetime's token, which comes back, and
+-- one is kept for the exit. The numbers' slice is passed on to `put_summary` at its own lifetime, share and ghost name, and given up for
+-- good: what `put_summary` says of the last list is what is said of `summary` at exit. Assumes nothing.
 use mathlib.Core.Path.{_≡_, refl, _∙_, ap}
 use Prim.Native.Nat.{ℕ}
 use mathlib.Core.List.{List, [], _∷_}
@@ -163,7 +163,8 @@ module _ {M : Type 1} (𝓤 : URA M) (H : Heap 𝓤) (A : Atoms 𝓤) (W : Given
         split ! $ move ! (1 ∷ []) $ use1 W (raw (fact 𝓤 (summaryTold a ≡ over))) (said-summarize a) $ heard ! (summaryTold a ≡ over) (λ e₀. split ! $ move ! (1 ∷ []) $
         peeks ! J.the-row (Is J.the-row) (shows 𝓤 H A J.the-row) a (u₀ ∷ []) (λ i₀.
         land ! (from ! (stop !)) (init ! 9 refl (EL.lawful J.the-type J′.the-laws 𝓤 H A W tt .typed a _ i₀ .0)) $ drop ! $
-        -- [the row's token; the row; the numbers; their token; _5; …; _0; …]: _4 and _5 are the numbers' slice again, and _0 = put_summary(_3, _5)
+        -- [the row's token; the row; the numbers; their token; _5; …; _0; …]: _4 and _5 are the numbers' slice again, and _0 =
+        -- put_summary(_3, _5)
         assigns ! (addr ! (from ! (fld ! refl (hop ! (look-in ! 10 (sub ! 0 refl (whole !))) (stop !))))) (from ! (stop !)) (init ! 6 refl (tt, tt)) $
         assigns ! (agg ! (and-then ! (load ! (from ! (stop !)) (look ! 6 refl)) (and-then ! (load ! (from ! (fld ! refl (stop !))) (look-in ! 10 (sub ! 1 refl (whole !)))) (no-more !)))) (from ! (stop !)) (init ! 4 refl (tt, (tt, (record { fits = gn .0 }, tt)))) $
         move ! (2 ∷ []) $ fsplit ! $ move ! (4 ∷ 0 ∷ []) $ use2 W (raw (Puts 𝓤 H A mem run .pre (to-put a u₀))) (goes-put a u₀ i₀) $

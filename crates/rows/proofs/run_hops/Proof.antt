@@ -1,7 +1,8 @@
--- `rows::run_hops` meets its contract: a walk of its MIR, by hand: three calls, of which the proof knows only that each meets its contract. That what was spelled, read again, is the row of the hops is `GatherLaws`'s `reads-row`.
--- The row is Copy: what it owns is had twice; one copy goes to `spell`, with the token of its lifetime, which comes back, and one is kept for the exit.
--- The packet goes to `run_spelled` at its own lifetime, share and ghost name: it is given up for good, no lifetime is made, and nothing has to come back. What `run_spelled` says of its last bytes, under that name, is what `run_hops` says of them at exit.
--- Assumes nothing.
+-- `rows::run_hops` meets its contract: a walk of its MIR, by hand: three calls, of which the proof knows only that each meets its contract.
+-- That what was spelled, read again, is the row of the hops is `GatherLaws`'s `reads-row`. The row is Copy: what it owns is had twice; one
+-- copy goes to `spell`, with the token of its lifetime, which comes back, and one is kept for the exit. The packet goes to `run_spelled` at
+-- its own lifetime, share and ghost name: it is given up for good, no lifetime is made, and nothing has to come back. What `run_spelled`
+-- says of its last bytes, under that name, is what `run_hops` says of them at exit. Assumes nothing.
 use mathlib.Core.Path.{_≡_, refl, _∙_, ap}
 use Prim.Native.Nat.{ℕ, _<_, _^_}
 use mathlib.Core.List.{List, [], _∷_}

@@ -1,6 +1,6 @@
--- `rows::spell` meets its contract: a walk of its MIR, by hand, with a loop and a call in it. Each turn looks into the slice, copies one hop out, puts it
--- back, shuts the slice again, and calls `with_hop`, of which the proof knows only that it meets its contract.
--- The loop's state: i, what was spelled so far with its machine value, and that gathering what is left gives the whole row's. Assumes nothing.
+-- `rows::spell` meets its contract: a walk of its MIR, by hand, with a loop and a call in it. Each turn looks into the slice, copies one
+-- hop out, puts it back, shuts the slice again, and calls `with_hop`, of which the proof knows only that it meets its contract. The loop's
+-- state: i, what was spelled so far with its machine value, and that gathering what is left gives the whole row's. Assumes nothing.
 use mathlib.Core.Path.{_≡_, refl, sym, _∙_, ap}
 use Prim.Native.Nat.{ℕ, _+_, _-_, _*_, _≤_, _<_, _^_, zero-le}
 use native.Mathlib.Omega.{arith}
@@ -169,7 +169,8 @@ module _ {M : Type 1} (𝓤 : URA M) (H : Heap 𝓤) (A : Atoms 𝓤) (W : Given
           move ! (17 ∷ []) $ fsplit ! $ move ! (1 ∷ []) $ fsplit ! $ move ! (1 ∷ 19 ∷ []) $
           looks-slice ! tt T.the-row (Is T.the-row) (shows 𝓤 H A T.the-row) (LL.vals T.the-type T′.the-laws) (LL.tells T.the-type T′.the-laws) (LL.copy T.the-type T′.the-copy 𝓤 H A W) ys b o (λ q′.
           elem-out ! T.the-row (Is T.the-row) (shows 𝓤 H A T.the-row) (LL.vals T.the-type T′.the-laws) (LL.tells T.the-type T′.the-laws) q′ ys (s .i) noHop b o less (λ ih.
-          -- [row[i]; what it owns; the others; what shuts; the fractured borrow; res; the slice's fact; _7; …; _6; …; _5; …; _4; …; _3; …; _2; …; _1; …; _0; …]
+          -- [row[i]; what it owns; the others; what shuts; the fractured borrow; res; the slice's fact; _7; …; _6; …; _5; …; _4; …; _3; …;
+          -- _2; …; _1; …; _0; …]
           assigns ! (of-opd ! (load ! (from ! (hop ! (look ! 9 refl) (stop !))) (look-raw ! 0 refl))) (from ! (stop !)) (init ! 7 refl (LL.lawful T.the-type T′.the-laws 𝓤 H A W .typed (getD ys (s .i) noHop) _ ih .0)) $
           elem-back ! T.the-row q′ ys (s .i) noHop (LL.vals T.the-type T′.the-laws (getD ys (s .i) noHop)) b o less $ shuts-slice ! tt T.the-row q′ ys b o $
           -- [the token; the fractured borrow; res; the slice's fact; _7; …]: the slice is whole again

@@ -1,6 +1,6 @@
--- `rows::summarize_hops` meets its contract: a walk of its MIR, by hand: three calls, of which the proof knows only that each meets its contract. That what was spelled, read again, is the row of the hops is `GatherLaws`'s `reads-row`.
--- The slice is Copy: what it owns is had twice; one copy goes to `spell`, with the lifetime's token, which comes back, and one is kept for the exit.
--- Assumes nothing.
+-- `rows::summarize_hops` meets its contract: a walk of its MIR, by hand: three calls, of which the proof knows only that each meets its
+-- contract. That what was spelled, read again, is the row of the hops is `GatherLaws`'s `reads-row`. The slice is Copy: what it owns is had
+-- twice; one copy goes to `spell`, with the lifetime's token, which comes back, and one is kept for the exit. Assumes nothing.
 use mathlib.Core.Path.{_≡_, refl, _∙_, ap}
 use Prim.Native.Nat.{ℕ}
 use mathlib.Core.List.{List, [], _∷_}

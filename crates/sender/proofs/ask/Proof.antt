@@ -1,4 +1,5 @@
--- `sender::ask` meets its contract: each test leads to its refusal, and past them all the request is written and the record opened. Assumes nothing.
+-- `sender::ask` meets its contract: each test leads to its refusal, and past them all the request is written and the record opened. Assumes
+-- nothing.
 use mathlib.Core.Bool.{true, false}
 use mathlib.Core.Path.{_≡_, sym, ap, _∙_}
 use lib.ListN.{length}

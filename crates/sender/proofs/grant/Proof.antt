@@ -1,4 +1,5 @@
--- `sender::grant` meets its contract: the window of a rate in range is never refused, and the record follows from the comparison with the window. Assumes nothing.
+-- `sender::grant` meets its contract: the window of a rate in range is never refused, and the record follows from the comparison with the
+-- window. Assumes nothing.
 use mathlib.Core.Path.{_≡_, sym, ap, _∙_}
 use Rattle.rates.specs.Replies.{windowTold}
 use Rattle.wire_rules.specs.Rates.Window.{windowBytes}

@@ -1,4 +1,5 @@
--- `sender::take_while_asked` meets its contract: what is no response is refused with 12 and leaves the record, and a response is settled. Assumes nothing.
+-- `sender::take_while_asked` meets its contract: what is no response is refused with 12 and leaves the record, and a response is settled.
+-- Assumes nothing.
 use mathlib.Core.Path.{sym, ap, _∙_}
 use native.Mathlib.Omega.{arith}
 use Rattle.options.specs.Replies.{responseTold}

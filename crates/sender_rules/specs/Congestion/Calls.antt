@@ -1,4 +1,5 @@
--- The calls on an ECN echo, a sample and the phase (document 01, "ECN and pipeACK", "Numbers and refusals"): what each says and what it leaves. Assumes nothing.
+-- The calls on an ECN echo, a sample and the phase (document 01, "ECN and pipeACK", "Numbers and refusals"): what each says and what it
+-- leaves. Assumes nothing.
 use Prim.Native.Nat.{ℕ}
 use mathlib.Core.Bool.{Bool, true, false, _&&_}
 use lib.Dec.{leb}

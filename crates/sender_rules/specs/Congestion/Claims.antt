@@ -1,5 +1,5 @@
--- What is claimed of the calls on an ECN echo, a sample and the phase beyond the contracts. `Echoes`, `Samples` and `Phases` are predicates over any such calls, in the paper's numbers; ours have them, and
--- whatever calls have them say and leave what ours do. Assumes nothing.
+-- What is claimed of the calls on an ECN echo, a sample and the phase beyond the contracts. `Echoes`, `Samples` and `Phases` are predicates
+-- over any such calls, in the paper's numbers; ours have them, and whatever calls have them say and leave what ours do. Assumes nothing.
 use Prim.Native.Nat.{ℕ, _+_, _*_, _/_, _%_, _≤_, _<_, min, max}
 use mathlib.Core.Bool.{true, false}
 use mathlib.Core.List.{List, [], _∷_}
@@ -57,7 +57,8 @@ pub record SampleGiven (c : Connection) (s : Sample) : Type 0 where
   pub record-in : InRange c
   pub bytes-high : s .bytes ≤ 1099511627776
 
--- "up to five samples (time, bytes), a new one in an empty place, else that of the earliest added": the five added last are kept. No other part of the record changes.
+-- "up to five samples (time, bytes), a new one in an empty place, else that of the earliest added": the five added last are kept. No other
+-- part of the record changes.
 pub record Added (c : Connection) (s : Sample) (left : Connection) : Type 0 where
   pub kept : samplesOf left ≡ take 5 (s ∷ samplesOf c)
   pub count-is : left .count ≡ min (c .count + 1) 5
@@ -126,7 +127,8 @@ pub record Ours : Type 0 where
   pub samples : Samples congestionCalls
   pub phases : Phases congestionCalls
 
--- whatever calls have these say and leave what ours do, for every record and all numbers; sequence numbers are below 2^32. What stands behind the samples that are kept is left free.
+-- whatever calls have these say and leave what ours do, for every record and all numbers; sequence numbers are below 2^32. What stands
+-- behind the samples that are kept is left free.
 pub record CongestionOnly : Type 0 where
   pub echo : (g : Congestion) → Echoes g → (c : Connection) (acknowledgement highest mss : ℕ) → acknowledgement < 4294967296
       → ((mark : ℕ) → c .mark ≡ Marks.At mark → mark < 4294967296) → g .echo c acknowledgement highest mss ≡ congestionCalls .echo c acknowledgement highest mss

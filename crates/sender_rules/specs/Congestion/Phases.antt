@@ -28,8 +28,8 @@ beforeNewest time (newest ∷ others) = ltb time (newest .time)
 unfoldable pub isEarly : ℕ → Connection → Bool
 isEarly time c = pick (isBefore time (c .period)) true (beforeNewest time (samplesOf c))
 
--- "up to five samples (time, bytes), a new one in an empty place, else that of the earliest added": the new one stands in front, the others move one place on, and what stood in the last
--- place is gone: an empty place's content, or the earliest sample
+-- "up to five samples (time, bytes), a new one in an empty place, else that of the earliest added": the new one stands in front, the others
+-- move one place on, and what stood in the last place is gone: an empty place's content, or the earliest sample
 abbrev pub sampled : Connection → Sample → Connection
 sampled c sample = withSamples c (sample ∷ take (mostSamples - 1) (c .samples)) (min (c .count + 1) mostSamples)
 

@@ -1,5 +1,5 @@
--- What is claimed of the record beyond the contracts: what its range is, in the paper's numbers, that making a fresh one is refused exactly when it would be out of range, and
--- that a record with one part changed keeps the others. Assumes nothing.
+-- What is claimed of the record beyond the contracts: what its range is, in the paper's numbers, that making a fresh one is refused exactly
+-- when it would be out of range, and that a record with one part changed keeps the others. Assumes nothing.
 use Prim.Native.Nat.{ℕ, _≤_, _<_}
 use mathlib.Core.Bool.{true, false}
 use mathlib.Core.List.{List, []}

@@ -1,5 +1,5 @@
--- The sender's record of a connection (document 01, "Router, receiver, sender", "ECN and pipeACK", "Numbers and refusals"): its ranges, the fresh one, and the record with one part of
--- it changed. Assumes nothing.
+-- The sender's record of a connection (document 01, "Router, receiver, sender", "ECN and pipeACK", "Numbers and refusals"): its ranges, the
+-- fresh one, and the record with one part of it changed. Assumes nothing.
 use Prim.Native.Nat.{ℕ, _^_}
 use mathlib.Core.Bool.{Bool, true, false, _&&_}
 use mathlib.Core.List.{List, [], _∷_}

@@ -53,7 +53,8 @@ sending c request = record { connection = c; request = request }
 
 -- ---- asking
 
--- "a code asked of sender or ledger 1 to 15", "starting IP TTL 1 to 255", "nonces below 2^30", "T 1 to 60,000,000 microseconds", "option buffers exactly 8 bytes"
+-- "a code asked of sender or ledger 1 to 15", "starting IP TTL 1 to 255", "nonces below 2^30", "T 1 to 60,000,000 microseconds", "option
+-- buffers exactly 8 bytes"
 unfoldable pub askInRange : ℕ → ℕ → ℕ → ℕ → ℕ → Bool
 askInRange code ttl nonce rtt room = within 1 code topCode && within 1 ttl topTtl && ltb nonce nonceLimit && within 1 rtt longestRtt && eqb room optionLength
 
@@ -95,7 +96,8 @@ whileQuick (Quick before) next = next before
 whileQuick Idle next = refuse 11
 whileQuick (Asked request) next = refuse 11
 
--- "accepted exactly when the rate is 1 to the code asked, TTL Diff is the stored one, and both nonces agree modulo 4 to that rate": the rate, or 13, 14 or 15
+-- "accepted exactly when the rate is 1 to the code asked, TTL Diff is the stored one, and both nonces agree modulo 4 to that rate": the
+-- rate, or 13, 14 or 15
 unfoldable pub judged : OpenRequest → Response → Reply ℕ
 judged request response =
     pick (within 1 (response .rate) (request .code))
@@ -130,7 +132,8 @@ afterResponse c t (refuse n) = pick (within 13 n 15) (withState c Idle) c
 abbrev pub backTo : Connection → ℕ → Connection
 backTo c window = withWindow (withState c Idle) (min (c .window) window)
 
--- "First acknowledgement while quick (fixed here): the window becomes the lesser of itself and max(flight, window before); idle."; "flight .. at most 2^40"
+-- "First acknowledgement while quick (fixed here): the window becomes the lesser of itself and max(flight, window before); idle."; "flight
+-- .. at most 2^40"
 abbrev pub acknowledgedReply : Connection → ℕ → Reply Connection
 acknowledgedReply c flight =
     pick (inRange c && leb flight mostBytes)

@@ -1,5 +1,5 @@
--- What is claimed of a sender beyond the contracts. `Asks`, `Takes` and `Ends` are predicates over the calls of any sender, in the paper's numbers; ours has them, and whatever sender
--- has them says and leaves what ours does, a QS TTL being a byte. Assumes nothing.
+-- What is claimed of a sender beyond the contracts. `Asks`, `Takes` and `Ends` are predicates over the calls of any sender, in the paper's
+-- numbers; ours has them, and whatever sender has them says and leaves what ours does, a QS TTL being a byte. Assumes nothing.
 use Prim.Native.Nat.{ℕ, _+_, _*_, _/_, _%_, _^_, _≤_, _<_, min, max}
 use mathlib.Core.List.{List}
 use mathlib.Core.Logic.{_⊎_}
@@ -22,7 +22,8 @@ use Rattle.sender_rules.specs.Sender.Calls.{Wish, wish, Transport, Sendi
 
 -- ---- asking
 
--- "a code asked of sender .. 1 to 15; nonces below 2^30; starting IP TTL 1 to 255", "T 1 to 60,000,000", "option buffers exactly 8 bytes", and the record in range
+-- "a code asked of sender .. 1 to 15; nonces below 2^30; starting IP TTL 1 to 255", "T 1 to 60,000,000", "option buffers exactly 8 bytes",
+-- and the record in range
 pub record AskGiven (c : Connection) (w : Wish) (buffer : List ℕ) : Type 0 where
   pub record-in : InRange c
   pub code-low : 1 ≤ w .code
@@ -34,7 +35,8 @@ pub record AskGiven (c : Connection) (w : Wish) (buffer : List ℕ) : Type 0 whe
   pub rtt-high : w .rtt ≤ 60000000
   pub room-is : length buffer ≡ 8
 
--- what an accepted asking leaves: the request in the buffer, and the record that describes it. Reading the buffer gives back code, QS TTL and nonce.
+-- what an accepted asking leaves: the request in the buffer, and the record that describes it. Reading the buffer gives back code, QS TTL
+-- and nonce.
 pub record Sent (c : Connection) (w : Wish) (left : Sending) : Type 0 where
   pub bytes : Bytes (left .request)
   pub reads : requestRead (left .request) ≡ answer (record { rate = w .code; «qs_ttl» = w .qs; nonce = w .nonce })
@@ -149,7 +151,8 @@ pub record SenderOnly : Type 0 where
 
 -- ---- what follows for ours
 
--- an asking that was accepted was in range, from an idle record whose last request, if there was one, is a round trip or more ago; and it wrote the request that its record describes
+-- an asking that was accepted was in range, from an idle record whose last request, if there was one, is a round trip or more ago; and it
+-- wrote the request that its record describes
 abbrev pub SentOnly : Type 0
 SentOnly = (c : Connection) (w : Wish) (buffer : List ℕ) → w .qs < 256 → senderCalls .ask c w buffer .said ≡ answer tt
     → AskGiven c w buffer × (c .state ≡ Idle) × ((last : ℕ) → c .«last_request» ≡ At last → last + w .rtt ≤ w .time) × Sent c w (senderCalls .ask c w buffer .left)

@@ -1,4 +1,5 @@
--- Laws of the checksum: one's complement addition as a remainder, the sum of a header's words, and what a written checksum does to it. Assumes nothing.
+-- Laws of the checksum: one's complement addition as a remainder, the sum of a header's words, and what a written checksum does to it.
+-- Assumes nothing.
 use Prim.Native.Nat.{ℕ, zero, suc, _+_, _-_, _*_, _/_, _%_, _≤_, _<_}
 use mathlib.Core.List.{List, [], _∷_, _++_, append-assoc}
 use mathlib.Core.Path.{_≡_, refl, sym, ap, _∙_}

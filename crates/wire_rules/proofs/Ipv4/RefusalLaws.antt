@@ -1,4 +1,5 @@
--- Which refusals the check of a header, forwarding, the walk and the view can be: stated for any property that holds of their numbers. Assumes nothing.
+-- Which refusals the check of a header, forwarding, the walk and the view can be: stated for any property that holds of their numbers.
+-- Assumes nothing.
 use Prim.Native.Nat.{ℕ}
 use mathlib.Core.List.{List}
 use mathlib.Core.Path.{_≡_, refl}

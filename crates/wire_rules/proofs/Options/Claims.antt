@@ -1,4 +1,5 @@
--- The claims of specs/Options/Claims.antt: the round trips, from the laws of the eight bytes, the lowering, from the laws of the nonce, and the refusals. Assumes nothing.
+-- The claims of specs/Options/Claims.antt: the round trips, from the laws of the eight bytes, the lowering, from the laws of the nonce, and
+-- the refusals. Assumes nothing.
 use Prim.Native.Nat.{ℕ, _+_, _*_, _/_, _%_, _≤_, _<_}
 use mathlib.Core.Bool.{true, false, _&&_}
 use mathlib.Core.List.{List}

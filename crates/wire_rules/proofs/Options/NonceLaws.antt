@@ -1,5 +1,5 @@
--- Laws of a lowering. A nonce is a number to base 4, and its field for code k is digit k - 1: a lowering puts the fresh nonce's digits from the new code up to the
--- old one between the nonce's own. Assumes nothing.
+-- Laws of a lowering. A nonce is a number to base 4, and its field for code k is digit k - 1: a lowering puts the fresh nonce's digits from
+-- the new code up to the old one between the nonce's own. Assumes nothing.
 use Prim.Native.Nat.{ℕ, _+_, _-_, _*_, _/_, _%_, _^_, _≤_, _<_}
 use mathlib.Core.Logic.{⊎-elim}
 use mathlib.Core.Path.{_≡_, refl, sym, ap, subst, _∙_}

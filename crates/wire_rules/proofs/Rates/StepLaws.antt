@@ -1,5 +1,5 @@
--- Laws of the fifteen steps, once over the step: rates increase with the code, the two roundings follow their rules, and each rule leaves one code only.
--- Assumes nothing.
+-- Laws of the fifteen steps, once over the step: rates increase with the code, the two roundings follow their rules, and each rule leaves
+-- one code only. Assumes nothing.
 use Prim.Native.Nat.{ℕ, zero, suc, _+_, _-_, _*_, _^_, _≤_, _<_, min, zero-le}
 use mathlib.Core.Logic.{_⊎_, inl, inr, ⊎-elim}
 use mathlib.Core.Path.{_≡_, refl, sym, subst, _∙_}

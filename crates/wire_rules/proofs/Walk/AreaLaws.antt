@@ -1,4 +1,5 @@
--- Laws of areas by what they are made of: the walk passes over what is skipped, and whatever it yields, the area is made so. Assumes nothing.
+-- Laws of areas by what they are made of: the walk passes over what is skipped, and whatever it yields, the area is made so. Assumes
+-- nothing.
 use Prim.Native.Nat.{ℕ, zero, suc, _+_, _-_, _≤_}
 use mathlib.Core.Bool.{true}
 use mathlib.Core.List.{List, [], _∷_, _++_, append-assoc}

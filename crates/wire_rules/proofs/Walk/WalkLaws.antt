@@ -1,4 +1,5 @@
--- Laws of the walk: how an option reads in its area, how the walk goes past an option, and what it does with the bytes that it skips. Assumes nothing.
+-- Laws of the walk: how an option reads in its area, how the walk goes past an option, and what it does with the bytes that it skips.
+-- Assumes nothing.
 use Prim.Native.Nat.{ℕ, zero, suc, _+_, _-_, _≤_, _<_}
 use mathlib.Core.Bool.{Bool, true, false}
 use mathlib.Core.List.{List, [], _∷_}

@@ -1,5 +1,6 @@
--- What is claimed of packets beyond the contracts: the checksum, what is read of a packet, the view, forwarding and marking. It speaks of the definitions that the
--- contracts cite; places in a packet are RFC 791's numbers: 1 is the second byte, 8 IP TTL, 10 and 11 the checksum, 20 the first byte of the options. Assumes nothing.
+-- What is claimed of packets beyond the contracts: the checksum, what is read of a packet, the view, forwarding and marking. It speaks of
+-- the definitions that the contracts cite; places in a packet are RFC 791's numbers: 1 is the second byte, 8 IP TTL, 10 and 11 the
+-- checksum, 20 the first byte of the options. Assumes nothing.
 use Prim.Native.Nat.{ℕ, suc, _+_, _-_, _*_, _/_, _%_, _≤_, _<_}
 use mathlib.Core.Bool.{Bool, true, false, _&&_}
 use mathlib.Core.List.{List, [], _∷_}
@@ -160,7 +161,8 @@ pub record Changed (reach : ℕ) (packet : List ℕ) (place : Place) (new : View
   pub reserved : (o : ℕ) → place ≡ At o → reservedIn (optionAt o (put packet new)) ≡ reservedIn (optionAt o packet)
 
 pub record Viewing : Type 0 where
-  -- what a view shows: IP TTL and, of an option with function 0, its fields; of another option, or where there is none, no request; of a faulty packet, the refusal
+  -- what a view shows: IP TTL and, of an option with function 0, its fields; of another option, or where there is none, no request; of a
+  -- faulty packet, the refusal
   pub shows : (reach place : ℕ) (packet : List ℕ) → located reach packet ≡ answer (At place) → getD packet (place + 2) 0 / 16 ≡ 0
       → view reach packet ≡ answer (record {
         ttl = getD packet 8 0;
@@ -176,7 +178,8 @@ pub record Viewing : Type 0 where
   pub changes : (reach : ℕ) (packet : List ℕ) (place : Place) (old new : View) → Bytes packet
       → located reach packet ≡ answer place → view reach packet ≡ answer old → Fits new → asks (old .request) ≡ asks (new .request)
       → Changed reach packet place new
-  -- put of the view is the packet again when its checksum is the one that sealing writes, and differs in the two checksum bytes alone otherwise
+  -- put of the view is the packet again when its checksum is the one that sealing writes, and differs in the two checksum bytes alone
+  -- otherwise
   pub same : (reach : ℕ) (packet : List ℕ) (v : View) → Bytes packet → view reach packet ≡ answer v
       → checksumIn packet ≡ checksumOf (headerOf packet) → put packet v ≡ packet
   pub otherwise : (reach : ℕ) (packet : List ℕ) (v : View) → Bytes packet → view reach packet ≡ answer v → put packet v ≡ sealed packet
@@ -191,12 +194,14 @@ pub record Forwarding : Type 0 where
   -- a packet forwarded as it came: its view with the IP TTL one lower
   pub puts-back : (reach : ℕ) (packet : List ℕ) (v : View) → Bytes packet → view reach packet ≡ answer v → 1 < v .ttl
       → forwarded reach packet ≡ answer (put packet (record { ttl = v .ttl - 1; request = v .request }))
-  -- 1 for a header that is not well formed, then 6 for an IP TTL of 0 or 1; a packet that came with a wrong header is not forwarded, and any other is passed on, whatever its options are
+  -- 1 for a header that is not well formed, then 6 for an IP TTL of 0 or 1; a packet that came with a wrong header is not forwarded, and
+  -- any other is passed on, whatever its options are
   pub malformed : (reach : ℕ) (packet : List ℕ) → wellFormed reach packet ≡ false → passedOn reach packet ≡ refuse 1
   pub expired : (reach : ℕ) (packet : List ℕ) → wellFormed reach packet ≡ true → getD packet 8 0 ≤ 1 → passedOn reach packet ≡ refuse 6
   pub not-forwarded : (reach n : ℕ) (packet : List ℕ) → headerChecked reach packet ≡ refuse n → forwarded reach packet ≡ refuse n
   pub forwarded-by : (reach h : ℕ) (packet : List ℕ) → headerChecked reach packet ≡ answer h → forwarded reach packet ≡ passedOn reach packet
-  -- whatever the options are: the IP TTL is one lower, no byte changes but it and the checksum, the header passes the check, and the options are as they were
+  -- whatever the options are: the IP TTL is one lower, no byte changes but it and the checksum, the header passes the check, and the
+  -- options are as they were
   pub lowered : (reach : ℕ) (packet new : List ℕ) → passedOn reach packet ≡ answer new → getD new 8 0 + 1 ≡ getD packet 8 0
   pub others : (reach : ℕ) (packet new : List ℕ) → passedOn reach packet ≡ answer new → (i : ℕ) → (i ≡ 8 → ⊥) → OutsideChecksum i → getD new i 0 ≡ getD packet i 0
   pub long : (reach : ℕ) (packet new : List ℕ) → passedOn reach packet ≡ answer new → length new ≡ length packet

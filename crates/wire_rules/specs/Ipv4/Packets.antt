@@ -1,4 +1,5 @@
--- What is done with a packet: its IP TTL read, the place of its Quick-Start option found, its checksum written, and passing it on. Assumes nothing.
+-- What is done with a packet: its IP TTL read, the place of its Quick-Start option found, its checksum written, and passing it on. Assumes
+-- nothing.
 use Prim.Native.Nat.{ℕ, _+_, _-_}
 use mathlib.Core.List.{List}
 use lib.Dec.{leb}
@@ -29,12 +30,13 @@ walked packet = andThen (walk (optionsOf packet)) (λ place. answer (inPacket pl
 abbrev pub located : ℕ → List ℕ → Reply Place
 located reach packet = andThen (headerChecked reach packet) (λ header. walked packet)
 
--- "A written checksum is the complement of the folded sum with its own field zero": the packet with it, or 1 for a header that is not well formed
+-- "A written checksum is the complement of the folded sum with its own field zero": the packet with it, or 1 for a header that is not well
+-- formed
 abbrev pub sealedReply : ℕ → List ℕ → Reply (List ℕ)
 sealedReply reach packet = pick (wellFormed reach packet) (answer (sealed packet)) (refuse 1)
 
--- the IP part of a router: "IP TTL falls by one and the checksum is written anew". 1 for a header that is not well formed, then 6 where a "router meets IP TTL 0 or 1".
--- The checksum as it came is not looked at: a router has rewritten the option by then
+-- the IP part of a router: "IP TTL falls by one and the checksum is written anew". 1 for a header that is not well formed, then 6 where a
+-- "router meets IP TTL 0 or 1". The checksum as it came is not looked at: a router has rewritten the option by then
 abbrev pub passedOn : ℕ → List ℕ → Reply (List ℕ)
 passedOn reach packet =
     pick (wellFormed reach packet) (pick (leb (ipTtl packet) 1) (refuse 6) (answer (sealed (set packet ttlPlace (ipTtl packet - 1))))) (refuse 1)

@@ -1,4 +1,5 @@
--- The view of a packet: the few numbers that routers, receiver and sender decide by, and the packet with others written in their places. Assumes nothing.
+-- The view of a packet: the few numbers that routers, receiver and sender decide by, and the packet with others written in their places.
+-- Assumes nothing.
 use Prim.Native.Nat.{ℕ}
 use mathlib.Core.List.{List}
 use mathlib.Core.Option.{Option, none, some}
@@ -36,8 +37,8 @@ requestAt (At place) packet = asRequest (requestRead (optionAt place packet))
 abbrev pub view : ℕ → List ℕ → Reply View
 view reach packet = andThen (located reach packet) (λ place. answer (record { ttl = ipTtl packet; request = requestAt place packet }))
 
--- a request written over the one at its place, "in that part of the packet alone"; nothing is written where there is none to write, none there, or a number of it is
--- out of range
+-- a request written over the one at its place, "in that part of the packet alone"; nothing is written where there is none to write, none
+-- there, or a number of it is out of range
 abbrev pub putRequest : Place → Option Request → List ℕ → List ℕ
 putRequest (At place) (some r) packet =
     sets packet place (leaves (optionAt place packet) (requestRewritten (optionAt place packet) (r .rate) (r .«qs_ttl») (r .nonce)))

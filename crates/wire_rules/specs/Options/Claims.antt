@@ -1,5 +1,5 @@
--- What is claimed of options and nonces beyond the contracts: what was written reads back, what a lowering keeps, and which refusal is given. It speaks of the definitions that the contracts
--- cite, and of a nonce's single fields. Assumes nothing.
+-- What is claimed of options and nonces beyond the contracts: what was written reads back, what a lowering keeps, and which refusal is
+-- given. It speaks of the definitions that the contracts cite, and of a nonce's single fields. Assumes nothing.
 use Prim.Native.Nat.{ℕ, _+_, _*_, _/_, _%_, _^_, _≤_, _<_}
 use mathlib.Core.Bool.{true}
 use mathlib.Core.List.{List}

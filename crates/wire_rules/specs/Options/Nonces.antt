@@ -7,7 +7,8 @@ use Rattle.wire_rules.specs.Rates.Steps.{topCode}
 use Rattle.refusals.specs.Reply.{Reply, answer, refuse}
 use Rattle.wire_rules.specs.Options.Wire.{nonceLimit}
 
--- "a two-bit field for each lowering, 15 to 14 in the highest bits down to 1 to 0 in the lowest": the field of the lowering from `code`, 1 or more, to `code` - 1
+-- "a two-bit field for each lowering, 15 to 14 in the highest bits down to 1 to 0 in the lowest": the field of the lowering from `code`, 1
+-- or more, to `code` - 1
 unfoldable pub fieldOf : ℕ → ℕ → ℕ
 fieldOf code nonce = nonce / 4 ^ (code - 1) % 4
 
@@ -15,7 +16,8 @@ fieldOf code nonce = nonce / 4 ^ (code - 1) % 4
 unfoldable pub fieldsUpTo : ℕ → ℕ → ℕ
 fieldsUpTo code nonce = nonce % 4 ^ code
 
--- "the fields between the new and the old rate take the fresh nonce's bits; the rest stay": above the old rate, between the two, and up to the new rate
+-- "the fields between the new and the old rate take the fresh nonce's bits; the rest stay": above the old rate, between the two, and up to
+-- the new rate
 unfoldable pub lowered : ℕ → ℕ → ℕ → ℕ → ℕ
 lowered old new nonce fresh =
     pick (ltb new old)

@@ -17,7 +17,8 @@ requestKind = 25
 unfoldable pub isRequest : List ℕ → Bool
 isRequest option = eqb (kindIn option) requestKind && eqb (lengthIn option) optionLength && eqb (highHalf option) 0
 
--- 7 for a buffer of another length, then 4 where "an option buffer read as one isn't type 25, length 8, function 0"; reserved bits are "ignored when read"
+-- 7 for a buffer of another length, then 4 where "an option buffer read as one isn't type 25, length 8, function 0"; reserved bits are
+-- "ignored when read"
 abbrev pub requestRead : List ℕ → Reply Request
 requestRead option =
     pick (eqb (length option) optionLength)

@@ -24,7 +24,8 @@ topTtl = 255
 unfoldable pub fieldsFit : ℕ → ℕ → ℕ → Bool
 fieldsFit len code nonce = eqb len optionLength && leb code topCode && ltb nonce nonceLimit
 
--- "a 32-bit big-endian word: 30 bits of nonce above 2 reserved bits": the word of four bytes, and the four bytes of a nonce and reserved bits
+-- "a 32-bit big-endian word: 30 bits of nonce above 2 reserved bits": the word of four bytes, and the four bytes of a nonce and reserved
+-- bits
 abbrev pub wordFrom : ℕ → ℕ → ℕ → ℕ → ℕ
 wordFrom a b c d = a * 16777216 + b * 65536 + c * 256 + d
 
@@ -39,7 +40,8 @@ optionBytes kind rate ttl nonce reserved = kind ∷ 8 ∷ rate ∷ ttl ∷ wordB
 abbrev pub optionWritten : ℕ → List ℕ → ℕ → ℕ → ℕ → Reply (List ℕ)
 optionWritten kind option rate ttl nonce = pick (fieldsFit (length option) rate nonce) (answer (optionBytes kind rate ttl nonce 0)) (refuse 7)
 
--- the fields of eight bytes. The high half of the rate's byte is a request's function, and reserved in a response; the nonce and the reserved bits are the word's
+-- the fields of eight bytes. The high half of the rate's byte is a request's function, and reserved in a response; the nonce and the
+-- reserved bits are the word's
 abbrev pub kindIn : List ℕ → ℕ
 kindIn option = getD option 0 0
 

@@ -25,7 +25,8 @@ pub record RoundingUp : Type 0 where
   pub own : (code : ℕ) → 1 ≤ code → code ≤ topCode → roundedUp (rateOf code) ≡ code
   pub monotone : (wish more : ℕ) → 1 ≤ wish → wish ≤ more → roundedUp wish ≤ roundedUp more
 
--- the window is the greatest number of whole segments, headers included, that the code's rate sends in a round trip: 8 bits to a byte, 1,000,000 microseconds to a second
+-- the window is the greatest number of whole segments, headers included, that the code's rate sends in a round trip: 8 bits to a byte,
+-- 1,000,000 microseconds to a second
 pub record WindowRule (code rtt mss headers : ℕ) : Type 0 where
   pub fits : windowSegments code rtt mss headers * (8 * 1000000 * (mss + headers)) ≤ rateOf code * rtt
   pub one-more : rateOf code * rtt < (windowSegments code rtt mss headers + 1) * (8 * 1000000 * (mss + headers))

@@ -42,7 +42,8 @@ leastFrom (suc tries) code wish =
     let above = leastFrom tries (suc code) wish in
     pick (leb wish (rateOf code)) code above
 
--- "A sender rounds up: the least code whose rate is at least the wish, and 15 above the top": the codes from 1 on are tried, and after the last but one the highest is left
+-- "A sender rounds up: the least code whose rate is at least the wish, and 15 above the top": the codes from 1 on are tried, and after the
+-- last but one the highest is left
 unfoldable pub roundedUp : ℕ → ℕ
 roundedUp wish = leastFrom (topCode - 1) 1 wish
 

@@ -1,5 +1,6 @@
--- What is claimed of the walk beyond its contract: in which areas it finds a Quick-Start option, and where; which have none; and which are faulty. Areas are told here
--- by what they are made of, not by walking them, and types and lengths are the paper's numbers. Assumes nothing.
+-- What is claimed of the walk beyond its contract: in which areas it finds a Quick-Start option, and where; which have none; and which are
+-- faulty. Areas are told here by what they are made of, not by walking them, and types and lengths are the paper's numbers. Assumes
+-- nothing.
 use Prim.Native.Nat.{ℕ, suc, _+_, _≤_, _<_}
 use mathlib.Core.List.{List, [], _∷_, _++_}
 use mathlib.Core.Logic.{_⊎_}
@@ -61,8 +62,8 @@ pub data Passed : List ℕ → Type 0 where
   no-option : (before : List ℕ) → Skipped before → Passed before
   one-option : (before six between : List ℕ) → Skipped before → length six ≡ 6 → Skipped between → Passed (before ++ (quickStartOption six ++ between))
 
--- an area with a fault, and its number: 3 for a length byte that is missing (it reads as 0), below 2 or above what is left, of a type 25 too; 5 for a type 25 whose
--- length is none of these and not 8, or that is a second one
+-- an area with a fault, and its number: 3 for a length byte that is missing (it reads as 0), below 2 or above what is left, of a type 25
+-- too; 5 for a type 25 whose length is none of these and not 8, or that is a second one
 pub data Faulty : ℕ → List ℕ → Type 0 where
   bad-length : (before left : List ℕ) → Passed before → (kindIn left ≡ 0 → ⊥) → (kindIn left ≡ 1 → ⊥) → (lengthIn left < 2) ⊎ (length left < lengthIn left)
       → Faulty 3 (before ++ left)

@@ -24,8 +24,8 @@ endKind = 0
 abbrev pub noOperation : ℕ
 noOperation = 1
 
--- "any other has a length byte of at least 2 that fits; a missing one is bad". `left` is all that is left of the area, from an option's type on; a length byte that is
--- missing reads as 0
+-- "any other has a length byte of at least 2 that fits; a missing one is bad". `left` is all that is left of the area, from an option's
+-- type on; a length byte that is missing reads as 0
 unfoldable pub lengthFits : List ℕ → Bool
 lengthFits left = within 2 (lengthIn left) (length left)
 
@@ -48,8 +48,8 @@ goOn place end walk = answer place
 goOn place (fault n) walk = refuse n
 goOn place (past found len) walk = walk found len
 
--- the walk of what is left of an area from an offset on, when `inside` of its bytes still belong to the option before. "The walk stops at the first end, fault or
--- last byte and yields what it found."
+-- the walk of what is left of an area from an offset on, when `inside` of its bytes still belong to the option before. "The walk stops at
+-- the first end, fault or last byte and yields what it found."
 unfoldable pub walkOn : Place → ℕ → ℕ → List ℕ → Reply Place
 walkOn place offset inside [] = answer place
 walkOn place offset (suc inside) (b ∷ rest) = walkOn place (suc offset) inside rest

@@ -1,4 +1,5 @@
--- `options::request::rewrite` meets its contract: either nothing is written and the refusal is answered, or all eight bytes are. Assumes nothing.
+-- `options::request::rewrite` meets its contract: either nothing is written and the refusal is answered, or all eight bytes are. Assumes
+-- nothing.
 use native.Mathlib.Omega.{arith}
 use mathlib.Core.Path.{_≡_}
 use mathlib.Core.Bool.{true}
