@@ -1,13 +1,13 @@
 // The calls of a connection, each printed as a line: the call with its numbers, the answer, the buffer after asking, and
 // the record that was handed back. Each hands the record on as the call left it.
-use congestion::EchoAnswer;
-use congestion::PhaseAnswer;
+use accepting::ResponseAnswer;
+use echo::EchoAnswer;
+use phase::PhaseAnswer;
 use printing::bytes;
 use printing::number;
 use printing::say;
 use refusals::Answer;
 use refusals::Refusal;
-use sender::ResponseAnswer;
 use sender_rules::Connection;
 use sender_rules::Mark;
 use sender_rules::Moment;
@@ -188,7 +188,7 @@ pub fn ask_into(
     request: &mut [u8],
 ) -> Connection {
     asking(code, ttl, qs_ttl, nonce, rtt, time);
-    let asked = sender::ask(c, code, ttl, qs_ttl, nonce, rtt, time, request);
+    let asked = asking::ask(c, code, ttl, qs_ttl, nonce, rtt, time, request);
     let answer = asked.answer;
     let left = asked.connection;
     sent(answer, request);
@@ -233,7 +233,7 @@ pub fn respond_with(
     headers: u64,
 ) -> Connection {
     responding(response, rtt, mss, headers);
-    let responded = sender::take_response(c, response, rtt, mss, headers);
+    let responded = accepting::take_response(c, response, rtt, mss, headers);
     let answer = responded.answer;
     let left = responded.connection;
     judged(answer);
@@ -255,7 +255,7 @@ pub fn finished(answer: Answer) {
 
 pub fn acknowledged(c: Connection, flight: u64) -> Connection {
     named(b"acknowledged", flight);
-    let ended = sender::first_acknowledgement(c, flight);
+    let ended = ending::first_acknowledgement(c, flight);
     let answer = ended.answer;
     let left = ended.connection;
     finished(answer);
@@ -265,7 +265,7 @@ pub fn acknowledged(c: Connection, flight: u64) -> Connection {
 
 pub fn loss(c: Connection) -> Connection {
     say(b"loss");
-    let ended = sender::loss(c);
+    let ended = ending::loss(c);
     let answer = ended.answer;
     let left = ended.connection;
     finished(answer);
@@ -275,7 +275,7 @@ pub fn loss(c: Connection) -> Connection {
 
 pub fn give_up(c: Connection) -> Connection {
     say(b"give up");
-    let ended = sender::give_up(c);
+    let ended = ending::give_up(c);
     let answer = ended.answer;
     let left = ended.connection;
     finished(answer);
@@ -299,7 +299,7 @@ fn reacted(answer: EchoAnswer) {
 
 pub fn echo(c: Connection, acknowledgement: u32, highest: u32, mss: u64) -> Connection {
     echoing(acknowledgement, highest, mss);
-    let echoed = congestion::echo(c, acknowledgement, highest, mss);
+    let echoed = echo::echo(c, acknowledgement, highest, mss);
     let answer = echoed.answer;
     let left = echoed.connection;
     reacted(answer);
@@ -317,7 +317,7 @@ fn added(answer: Answer) {
 pub fn sample(c: Connection, time: u64, amount: u64) -> Connection {
     named(b"sample", amount);
     named(b" at", time);
-    let sampled = congestion::sample(c, time, amount);
+    let sampled = sampling::sample(c, time, amount);
     let answer = sampled.answer;
     let left = sampled.connection;
     added(answer);
@@ -341,7 +341,7 @@ fn found(answer: PhaseAnswer) {
 
 pub fn phase_with(c: Connection, rtt: u64, initial_window: u64, time: u64) -> Connection {
     phasing(rtt, initial_window, time);
-    let phased = congestion::phase(c, rtt, initial_window, time);
+    let phased = phase::phase(c, rtt, initial_window, time);
     let answer = phased.answer;
     let left = phased.connection;
     found(answer);

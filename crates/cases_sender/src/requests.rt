@@ -21,7 +21,7 @@ use printing::say;
 // A refused record, and a call with what is handed back.
 fn fresh_refused(window: u64, ssthresh: u64) {
     let c = fresh(window, ssthresh);
-    let ended = sender::give_up(c);
+    let ended = ending::give_up(c);
     let answer = ended.answer;
     say(b"handed to a call");
     finished(answer);

@@ -1,1 +1,4 @@
 pub mod SampleLaws
+pub mod RangeLaws
+pub mod EarlyLaws
+pub mod TestLaws

@@ -4,6 +4,8 @@ ghost use mathlib.Core.Path.{_≡_};
 ghost use Prim.Native.Nat.{_≤_, min, max};
 ghost use lib.ListN.{take};
 ghost use Rattle.refusals.specs.Replies.{answerTold};
+ghost use Rattle.sender_rules.specs.Congestion.Echoes.{halved};
+ghost use Rattle.sender_rules.specs.Congestion.Phases.{isEarly};
 ghost use Rattle.sender_rules.specs.Connections.Records.{mostSamples, isBefore, stateInRange, bytesInRange, inRange, freshWith, freshReply, withState, withLastRequest, withMark, withPeriod};
 use options::NONCE_LIMIT;
 use rates::TOP_CODE;
@@ -216,4 +218,29 @@ pub fn with_period(connection: Connection, period: Moment) -> Connection
         count: connection.count,
         period,
     }
+}
+
+// ---- what several calls ask
+
+// Half of the window or the least given, whichever is more, but not more than the window.
+pub fn halved_down_to(window: u64, least: u64) -> u64
+    ensures { λ r. ⌜ r ≡ halved window least ⌝ }
+{
+    lesser(window, greater(window / 2, least))
+}
+
+// Whether a time lies before the newest sample's, or before the start of the period that runs.
+pub fn is_early(connection: Connection, time: u64) -> bool
+    ensures { λ r. ⌜ r ≡ isEarly time connection ⌝ }
+{
+    let period = connection.period;
+    if is_before(time, period) {
+        return true;
+    }
+    if connection.count == 0 {
+        return false;
+    }
+    let samples = connection.samples;
+    let newest = samples[0];
+    time < newest.time
 }

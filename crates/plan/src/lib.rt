@@ -12,6 +12,7 @@ ghost use Rattle.path_rules.specs.Plan.Records.{startsRequest, startsReceiver, 
 ghost use Rattle.path_rules.specs.Plan.Lines.{decimal, verdictLine, badLine, verdictFor, lineOf};
 ghost use Rattle.plan.specs.Texts.{textOf};
 ghost use Rattle.plan.specs.Parts.{runSaid};
+use asking::ask;
 use connection::fresh;
 use hops::Verdict;
 use hops::VerdictAnswer;
@@ -26,7 +27,6 @@ use path::SSTHRESH;
 use path::WINDOW;
 use path::run;
 use rates::TOP_CODE;
-use sender::ask;
 
 // A line's bytes stand in the first `len` places.
 pub struct Text {

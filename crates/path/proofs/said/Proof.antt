@@ -1,7 +1,7 @@
 -- `path::said` meets its contract: each answer of the sender is its verdict. Assumes nothing.
 use mathlib.Core.Path.{sym, ap}
-use Rattle.sender.specs.declared.ResponseAnswer.{ResponseAnswer}
-use Rattle.sender.specs.Replies.{acceptedTold}
+use Rattle.accepting.specs.declared.ResponseAnswer.{ResponseAnswer}
+use Rattle.accepting.specs.Replies.{acceptedTold}
 use Rattle.path_rules.specs.Path.Runs.{saidOf}
 use borrow.Author.Needs.{needs}
 use Rattle.path.proofs.said.Statement.{statement}

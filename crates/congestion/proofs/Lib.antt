@@ -1,5 +1,0 @@
-pub mod TestLaws
-pub mod EchoLaws
-pub mod SampleLaws
-pub mod PipeLaws
-pub mod CallLaws

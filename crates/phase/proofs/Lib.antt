@@ -1,0 +1,2 @@
+pub mod PipeLaws
+pub mod RangeLaws
