@@ -13,9 +13,8 @@ ghost use Rattle.sender_rules.specs.Sender.Calls.{transport, judged, taken, gra
 ghost use Rattle.accepting.specs.Replies.{acceptedTold, judgementTold};
 use connection::is_in_range;
 use connection::with_state;
+use nonce::Agreement;
 use options::OPTION_LENGTH;
-use options::nonce;
-use options::nonce::Agreement;
 use options::response;
 use options::response::Reading;
 use rates::Window;

@@ -1,8 +1,7 @@
 // Runs the lowest layers on the documents' figures and on both sides of every boundary, and prints
 // what they answer, a line for each call: its name, its arguments, and its answer or refusal.
-use options::nonce;
-use options::nonce::Agreement;
-use options::nonce::Nonce;
+use nonce::Agreement;
+use nonce::Nonce;
 use options::request;
 use options::response;
 use printing::bytes;

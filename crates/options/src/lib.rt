@@ -1,5 +1,5 @@
 // The eight bytes of a Quick-Start request, an option of the IPv4 header, and of a Quick-Start
-// response, an option of the TCP header; and the nonce that both carry.
+// response, an option of the TCP header.
 ghost use mathlib.Core.Path.{_≡_};
 ghost use Prim.Native.Nat.{_<_};
 ghost use lib.ListN.{length, getD};
@@ -10,7 +10,6 @@ use rates::TOP_CODE;
 use refusals::Answer;
 use refusals::Refusal;
 
-pub mod nonce;
 pub mod request;
 pub mod response;
 

@@ -1,7 +1,7 @@
 -- `accepting::judge` meets its contract: the three tests in their order. Assumes nothing.
 use mathlib.Core.Path.{sym, ap, _∙_}
 use Rattle.common.proofs.Choice.{held, failed}
-use Rattle.options.specs.Replies.{agreementTold}
+use Rattle.nonce.specs.Replies.{agreementTold}
 use Rattle.sender_rules.proofs.Sender.CallLaws.{rate-wrong, diff-wrong}
 use Rattle.accepting.proofs.CallLaws.{nonce-same, nonce-other, nonce-refused}
 use borrow.Author.Needs.{needs}

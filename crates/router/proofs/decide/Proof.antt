@@ -1,7 +1,7 @@
 -- `router::decide` meets its contract: each return is one of the three decisions, and the nonce is never refused. Assumes nothing.
 use mathlib.Core.Path.{sym, ap, _∙_}
 use native.Mathlib.Omega.{arith}
-use Rattle.options.specs.Replies.{nonceTold}
+use Rattle.nonce.specs.Replies.{nonceTold}
 use Rattle.gateway_rules.proofs.Router.DecisionLaws.{nothing-decided, denied}
 use Rattle.router.proofs.DecisionLaws.{never-refused, approved-by}
 use borrow.Author.Needs.{needs}
