@@ -1,7 +1,7 @@
 // The rules of a sender: its record, asking and the response, ECN and pipeACK.
 // A rules crate has types, definitions, laws and claims, and no function. Here are the types that its definitions
 // speak of; specs/ says what is promised, in the order that specs/Lib.antt gives; proofs/ proves it. The functions
-// that keep these rules stand in the crates connection, sender and congestion.
+// that keep these rules stand in the crates connection, asking, accepting, ending, echo, sampling and phase.
 
 // ---- connection
 

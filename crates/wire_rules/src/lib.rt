@@ -1,7 +1,7 @@
 // The rules of bytes on the wire: rates, options, the walk over an options area, the IPv4 header.
 // A rules crate has types, definitions, laws and claims, and no function. Here are the types that its definitions
 // speak of; specs/ says what is promised, in the order that specs/Lib.antt gives; proofs/ proves it. The functions
-// that keep these rules stand in the crates rates, options, walk and ipv4.
+// that keep these rules stand in the crates rates, options, nonce, walk and ipv4.
 
 // ---- options
 
