@@ -3,14 +3,14 @@ use Prim.Native.Nat.{ℕ, zero, suc, _≤_}
 use mathlib.Core.Bool.{true, _&&_}
 use mathlib.Core.List.{List, [], _∷_}
 use mathlib.Core.Option.{Option, none, some}
-use mathlib.Core.Path.{_≡_, refl, sym, ap}
+use mathlib.Core.Path.{_≡_, refl, sym, ap, subst, _∙_}
 use native.Mathlib.Omega.{arith}
 use lib.Dec.{leb}
 use lib.ListN.{length}
 use Rattle.common.specs.Choice.{within}
 use Rattle.refusals.specs.declared.Refusal.{Refusal}
 use Rattle.refusals.specs.Numbers.{numberOf}
-use Rattle.refusals.specs.Reply.{Reply, answer, refuse, done}
+use Rattle.refusals.specs.Reply.{Reply, answer, refuse, done, leaves}
 use Rattle.refusals.proofs.ReplyLaws.{RefusedBy, chosen-by, then-by}
 use Rattle.refusals.proofs.Claims.{table}
 use Rattle.wire_rules.specs.Rates.Steps.{topCode}
@@ -22,6 +22,8 @@ use Rattle.wire_rules.specs.Ipv4.Packets.{forwarded}
 use Rattle.wire_rules.specs.Ipv4.Marks.{Mark, marked, dropped, markReply}
 use Rattle.ipv4.specs.Replies.{markTold}
 use Rattle.wire_rules.specs.Ipv4.Views.{view}
+use Rattle.wire_rules.specs.Ipv4.Claims.{SameHeader, LeftAlike, Alike}
+use Rattle.wire_rules.proofs.Ipv4.Claims as packets
 use Rattle.wire_rules.proofs.Ipv4.RefusalLaws.{checked-by, forwarded-by, view-by}
 use Rattle.gateway_rules.specs.Ledgers.Calls.{Link, linkInRange, moveReply, askReply}
 use Rattle.gateway_rules.specs.Ledgers.Rows.{total}
@@ -31,10 +33,12 @@ use Rattle.gateway_rules.specs.Router.Routers.{routerInRange, routed, silentlyR
 use Rattle.router.specs.Replies.{routedTold}
 use Rattle.receiver.specs.declared.Received.{Received}
 use Rattle.receiver.specs.declared.Received.the-variants as Receivings
-use Rattle.gateway_rules.specs.Receiver.Reports.{Report, unanswered, reported, receiverInRange, reportReply, received, reactionIn}
+use Rattle.gateway_rules.specs.Receiver.Reports.{Report, unanswered, reported, receiverInRange, reportReply, received, responseAfter, reactionIn}
+use Rattle.gateway_rules.proofs.Router.Claims as routers
+use Rattle.gateway_rules.proofs.Receiver.Claims as receivers
 use Rattle.receiver.specs.Replies.{receivedTold}
-use Rattle.gateway.specs.Results.{routerResult, receiverResult, markResult}
-use Rattle.gateway.specs.Claims.{Numbered, Lending, Apart, among, Possible}
+use Rattle.gateway.specs.Results.{routerResult, receiverResult, markResult, lentByC}
+use Rattle.gateway.specs.Claims.{Numbered, Lending, Apart, among, Possible, HeaderOnly}
 
 -- ---- each number, and what is lent
 
@@ -173,4 +177,27 @@ possible = record {
   mark = λ packet.
       let l : List ℕ = 0 ∷ 1 ∷ 2 ∷ 41 ∷ [] in
       mark-among l refl refl (markReply packet) (then-by (Is l) (headerChecked (length packet) packet) _ (checked-by (Is l) refl refl (length packet) packet) (λ h. tt));
+}
+
+-- ---- behind the header
+
+-- what is said of a forwarded packet, where the reach is its own length
+forwards-alike : (p q : List ℕ) (call : ℕ → List ℕ → Reply (List ℕ)) → SameHeader p q → Alike p q (call (length p) p) (call (length p) q)
+    → (routerResult (done (call (length q) q)) ≡ routerResult (done (call (length p) p))) × LeftAlike p q (leaves p (call (length p) p)) (leaves q (call (length q) q))
+forwards-alike p q call s a =
+    subst (λ (n : ℕ). (routerResult (done (call n q)) ≡ routerResult (done (call (length p) p))) × LeftAlike p q (leaves p (call (length p) p)) (leaves q (call n q)))
+    (sym (s .long)) (ap routerResult (a .0), a .1)
+
+pub headerOnly : HeaderOnly
+headerOnly = record {
+  router = λ ceiling fresh p q s. forwards-alike p q (λ n packet. routed n ceiling fresh packet) s (routers.behindHeader .router (length p) ceiling fresh p q s);
+  router-ledger = λ ceiling fresh present p q row tick allowance s.
+      let a = routers.behindHeader .with-ledger ceiling fresh present p q (lentByC p row tick allowance .link) s in
+      (ap routerResult (a .said-is), a .link-is, a .packets);
+  silent-router = λ p q s. forwards-alike p q silentlyRouted s (routers.behindHeader .silent (length p) p q s);
+  receiver = λ ceiling response p q s.
+      let e : received (length q) ceiling (length response) q ≡ received (length p) ceiling (length response) p =
+      ap (λ (n : ℕ). received n ceiling (length response) q) (s .long) ∙ receivers.behindHeader (length p) ceiling (length response) p q s in
+      (ap (λ (r : Reply Report). receiverResult (reactionIn r)) e, ap (responseAfter response) e);
+  mark = λ p q s. let m = packets.behindHeader .marks p q s in (ap markResult (m .0), m .1);
 }

@@ -1,21 +1,22 @@
--- What is claimed of the exported functions' results: each answer has a number of its own, and which numbers a function can give. Assumes
--- nothing.
+-- What is claimed of the exported functions' results: each answer has a number of its own, which numbers a function can give, and that
+-- nothing depends on a byte behind the header. Assumes nothing.
 use Prim.Native.Nat.{ℕ}
 use mathlib.Core.Bool.{Bool, true, false, _||_}
 use mathlib.Core.List.{List, [], _∷_}
 use mathlib.Core.Path.{_≡_}
 use lib.Dec.{eqb}
 use lib.ListN.{length}
-use Rattle.refusals.specs.Reply.{answer, refuse, done}
+use Rattle.refusals.specs.Reply.{answer, refuse, done, leaves}
 use Rattle.wire_rules.specs.declared.Response.{Response}
 use Rattle.ipv4.specs.declared.ecn.Marking.{Marking}
-use Rattle.wire_rules.specs.Ipv4.Marks.{marked, dropped, markReply}
+use Rattle.wire_rules.specs.Ipv4.Marks.{marked, dropped, markReply, markedPacket}
+use Rattle.wire_rules.specs.Ipv4.Claims.{SameHeader, LeftAlike}
 use Rattle.ipv4.specs.Replies.{markTold}
 use Rattle.router.specs.declared.Routed.{Routed}
 use Rattle.gateway_rules.specs.Router.Routers.{routed, silentlyRouted, Passage, ledgerRouter}
 use Rattle.router.specs.Replies.{routedTold}
 use Rattle.receiver.specs.declared.Received.{Received}
-use Rattle.gateway_rules.specs.Receiver.Reports.{unanswered, reported, received, reactionIn}
+use Rattle.gateway_rules.specs.Receiver.Reports.{unanswered, reported, received, responseAfter, reactionIn}
 use Rattle.receiver.specs.Replies.{receivedTold}
 use Rattle.gateway.specs.Results.{routerResult, receiverResult, markResult, lentByC}
 
@@ -56,3 +57,23 @@ pub record Possible : Type 0 where
   pub receiver : (ceiling room : ℕ) (packet : List ℕ)
       → among (0 ∷ 1 ∷ 2 ∷ 3 ∷ 4 ∷ 5 ∷ 7 ∷ 40 ∷ []) (receiverResult (reactionIn (received (length packet) ceiling room packet))) ≡ true
   pub mark : (packet : List ℕ) → among (0 ∷ 1 ∷ 2 ∷ 41 ∷ []) (markResult (markReply packet)) ≡ true
+
+-- "No call changes a byte behind the header, and no result depends on one." (the C header): of two packets of one length that differ
+-- behind the header alone, each function gives the same result and leaves headers that are the same again, and behind them what was there
+pub record HeaderOnly : Type 0 where
+  pub router : (ceiling fresh : ℕ) (p q : List ℕ) → SameHeader p q
+      → (routerResult (done (routed (length q) ceiling fresh q)) ≡ routerResult (done (routed (length p) ceiling fresh p)))
+      × LeftAlike p q (leaves p (routed (length p) ceiling fresh p)) (leaves q (routed (length q) ceiling fresh q))
+  -- with the same row, tick and allowance; these are left the same
+  pub router-ledger : (ceiling fresh present : ℕ) (p q row : List ℕ) (tick allowance : ℕ) → SameHeader p q
+      → let x = ledgerRouter ceiling fresh present (lentByC p row tick allowance) in
+      let y = ledgerRouter ceiling fresh present (lentByC q row tick allowance) in
+      (routerResult (y .said) ≡ routerResult (x .said)) × (y .left .link ≡ x .left .link) × LeftAlike p q (x .left .packet) (y .left .packet)
+  pub silent-router : (p q : List ℕ) → SameHeader p q
+      → (routerResult (done (silentlyRouted (length q) q)) ≡ routerResult (done (silentlyRouted (length p) p)))
+      × LeftAlike p q (leaves p (silentlyRouted (length p) p)) (leaves q (silentlyRouted (length q) q))
+  -- and the same response, in the same buffer
+  pub receiver : (ceiling : ℕ) (response p q : List ℕ) → SameHeader p q
+      → (receiverResult (reactionIn (received (length q) ceiling (length response) q)) ≡ receiverResult (reactionIn (received (length p) ceiling (length response) p)))
+      × (responseAfter response (received (length q) ceiling (length response) q) ≡ responseAfter response (received (length p) ceiling (length response) p))
+  pub mark : (p q : List ℕ) → SameHeader p q → (markResult (markReply q) ≡ markResult (markReply p)) × LeftAlike p q (markedPacket p) (markedPacket q)

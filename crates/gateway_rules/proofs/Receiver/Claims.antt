@@ -9,6 +9,7 @@ use native.Mathlib.Omega.{arith}
 use lib.Dec.{leb, eqb}
 use borrow.Author.Tests.{le-leb, eq-eqb, leb-true, eqb-true, eqb-false}
 use lib.ListN.{length, getD}
+use Rattle.common.specs.Choice.{pick}
 use Rattle.common.specs.Lists.{Bytes}
 use Rattle.common.proofs.Choice.{clash, chosen, untrue, either, both-true, le-or-gt}
 use Rattle.refusals.specs.Reply.{Reply, answer, refuse, leaves, andThen}
@@ -25,8 +26,9 @@ use Rattle.wire_rules.specs.Ipv4.Packets.{located}
 use Rattle.wire_rules.specs.Ipv4.Views.{View, view}
 use Rattle.wire_rules.specs.Ipv4.Claims.{RequestFits}
 use Rattle.wire_rules.proofs.Ipv4.Claims.{viewing}
+use Rattle.wire_rules.proofs.Ipv4.Claims as packets
 use Rattle.gateway_rules.specs.Receiver.Reports.{reported, reportReply, receiverInRange, received, responseAfter}
-use Rattle.gateway_rules.specs.Receiver.Claims.{Receiver, Given, Reports, Receiving, Responding, Saying, ReceivingTheorem, ReceivingOnly}
+use Rattle.gateway_rules.specs.Receiver.Claims.{Receiver, Given, Reports, Receiving, Responding, Saying, ReceivingTheorem, ReceivingOnly, BehindHeader}
 use Rattle.gateway_rules.proofs.Receiver.ReportLaws.{no-report, report-is, received-seven}
 
 -- ---- ranges
@@ -183,6 +185,10 @@ receivingOnly = same-report
 
 pub receivingTheorem : ReceivingTheorem
 receivingTheorem = receiving
+
+pub behindHeader : BehindHeader
+behindHeader reach ceiling room p q s =
+    ap (λ (seen : Reply View). pick (receiverInRange ceiling room) (andThen seen (λ v. reportReply ceiling (v .ttl) (v .request))) (refuse 7)) (packets.behindHeader .views reach p q s)
 
 pub saying : Saying
 saying = record { answered = λ r. refl; silent = refl; refused = λ n. refl }

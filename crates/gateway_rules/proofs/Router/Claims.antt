@@ -25,8 +25,9 @@ use Rattle.gateway_rules.specs.Ledgers.Calls.{linkInRange, grantOf}
 use Rattle.gateway_rules.specs.Ledgers.History.{inLast}
 use Rattle.gateway_rules.specs.Router.Decisions.{oneLess, decided}
 use Rattle.gateway_rules.specs.Router.Routers.{routerInRange, wishOf, Passage}
-use Rattle.gateway_rules.specs.Router.Claims.{Deciding, Given, Carries, RoutingOnly, SilentHop, WithLedger, Ours, AllowanceTheorem, touchingNothing, ShutOut}
+use Rattle.gateway_rules.specs.Router.Claims.{Deciding, Given, Carries, RoutingOnly, SilentHop, WithLedger, Ours, BehindHeader, AllowanceTheorem, touchingNothing, ShutOut}
 use Rattle.gateway_rules.specs.Router.Traffic.{Arrival}
+use Rattle.gateway_rules.proofs.Router.BehindLaws as behind
 use Rattle.gateway_rules.proofs.Router.CallLaws.{wish-low, ledger-by, from-ledger}
 use Rattle.gateway_rules.proofs.Router.HopLaws.{given-ok, routed-view}
 use Rattle.gateway_rules.proofs.Router.TrafficLaws as traffic
@@ -64,6 +65,9 @@ withLedger = record {
   refused = λ ceiling fresh tick n p e. ap (λ (r : Reply Passage). record { said = done r; left = leaves p r }) e;
   accepted = λ ceiling fresh tick p new e. ap (λ (r : Reply Passage). record { said = done r; left = leaves p r }) e;
 }
+
+pub behindHeader : BehindHeader
+behindHeader = behind.behindHeader
 
 pub allowanceTheorem : AllowanceTheorem
 allowanceTheorem = traffic.allowanceTheorem

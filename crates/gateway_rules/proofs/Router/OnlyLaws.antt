@@ -1,16 +1,15 @@
 -- One packet only: two packets that were passed on from the same one, and carry the same four numbers, are equal byte by byte. Assumes
 -- nothing.
-use Prim.Native.Nat.{ℕ, suc, _+_, _-_, _*_, _/_, _%_, _≤_, _<_}
+use Prim.Native.Nat.{ℕ, suc, _+_, _*_, _/_, _%_, _≤_, _<_}
 use mathlib.Core.Bool.{Bool, true, false}
 use mathlib.Core.List.{List}
 use mathlib.Core.Logic.{_⊎_, inl, inr, ⊎-elim}
 use mathlib.Core.Option.{some}
-use mathlib.Core.Path.{_≡_, refl, sym, ap, ap₂, _∙_}
+use mathlib.Core.Path.{_≡_, refl, sym, ap, _∙_}
 use native.Mathlib.Omega.{arith}
 use borrow.Author.Tests.{eqb-true, eqb-false}
 use lib.Dec.{eqb}
-use lib.ListN.{length, getD, set, take, length-set}
-use lib.Seq.{getD-set-same, getD-set-other, ext-getD}
+use lib.ListN.{length, getD}
 use Rattle.common.specs.Lists.{Bytes}
 use Rattle.common.proofs.Choice.{clash, le-or-gt}
 use Rattle.refusals.specs.Reply.{answer}
@@ -19,56 +18,13 @@ use Rattle.wire_rules.specs.declared.Request.{Request}
 use Rattle.wire_rules.specs.Options.Wire.{reservedIn}
 use Rattle.wire_rules.specs.declared.Place.the-variants.{At}
 use Rattle.wire_rules.specs.Ipv4.Headers.{wordAt, headerLength}
-use Rattle.wire_rules.specs.Ipv4.Checksums.{allOnes, onesSum, withChecksum, sealed}
 use Rattle.wire_rules.specs.Ipv4.Packets.{located}
 use Rattle.wire_rules.specs.Ipv4.Views.{View, optionAt, view}
 use Rattle.wire_rules.specs.Ipv4.Claims.{OutsideChecksum, nonceAt}
-use Rattle.wire_rules.proofs.Ipv4.ChecksumLaws.{length-field, in-steps}
-use Rattle.wire_rules.proofs.Ipv4.SealLaws.{field-others}
+use Rattle.wire_rules.proofs.Ipv4.SealLaws.{sealed-alike}
 use Rattle.wire_rules.proofs.Ipv4.OptionLaws.{word-of}
 use Rattle.wire_rules.proofs.Ipv4.Claims.{reading, locating, viewing}
 use Rattle.gateway_rules.specs.Router.Claims.{PassedOn}
-
--- ---- the checksum
-
--- a place is before the checksum's field, one of its two bytes, or behind it
-by-field : (P : ℕ → Type 0) (i : ℕ) → P 10 → P 11 → (OutsideChecksum i → P i) → P i
-by-field P i ten eleven other = ⊎-elim low high (le-or-gt i 9)
-  where
-    low : i ≤ 9 → P i
-    low h = other ((λ e. omega arith), (λ e. omega arith))
-
-    above : 11 < i → P i
-    above h = other ((λ e. omega arith), (λ e. omega arith))
-
-    high : 9 < i → P i
-    high h =
-        ⊎-elim
-        (λ (l : i ≤ 10). let e : 10 ≡ i = omega arith in rw (sym e) ten)
-        (λ (g : 10 < i). ⊎-elim (λ (l : i ≤ 11). let e : 11 ≡ i = omega arith in rw (sym e) eleven) above (le-or-gt i 11))
-        (le-or-gt i 10)
-
-zeroed-first : (p : List ℕ) → 12 ≤ length p → getD (withChecksum 0 p) 10 0 ≡ 0
-unfolding withChecksum
-zeroed-first p h = getD-set-other (set p 10 0) 11 10 0 0 (λ e. absurd (omega arith)) ∙ getD-set-same p 10 0 0 (omega arith)
-
-zeroed-second : (p : List ℕ) → 12 ≤ length p → getD (withChecksum 0 p) 11 0 ≡ 0
-unfolding withChecksum
-zeroed-second p h = getD-set-same (set p 10 0) 11 0 0 (rw (length-set p 10 0) (omega arith))
-
--- packets that agree outside the checksum are sealed alike
-sealed-alike : (p q : List ℕ) → length p ≡ length q → 12 ≤ length p → 12 ≤ headerLength p → headerLength p ≡ headerLength q
-    → ((i : ℕ) → OutsideChecksum i → getD p i 0 ≡ getD q i 0) → sealed p ≡ sealed q
-sealed-alike p q long room size header agree =
-    let zeros : withChecksum 0 p ≡ withChecksum 0 q =
-    ext-getD 0 (withChecksum 0 p) (withChecksum 0 q) (length-field 0 p ∙ long ∙ sym (length-field 0 q)) (λ i l.
-    by-field (λ (k : ℕ). getD (withChecksum 0 p) k 0 ≡ getD (withChecksum 0 q) k 0) i
-    (zeroed-first p room ∙ sym (zeroed-first q (omega arith)))
-    (zeroed-second p room ∙ sym (zeroed-second q (omega arith)))
-    (λ o. field-others 0 p i o ∙ agree i o ∙ sym (field-others 0 q i o))) in
-    sym (in-steps p size)
-    ∙ ap₂ (λ (h : ℕ) (z : List ℕ). withChecksum (allOnes - onesSum (take h z)) z) header zeros
-    ∙ in-steps q (omega arith)
 
 -- ---- packets passed on from the same one
 

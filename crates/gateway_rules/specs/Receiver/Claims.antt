@@ -15,6 +15,7 @@ use Rattle.wire_rules.specs.Options.Responses.{responseRead}
 use Rattle.wire_rules.specs.declared.Place.the-variants.{Nowhere, At}
 use Rattle.wire_rules.specs.Ipv4.Packets.{located}
 use Rattle.wire_rules.specs.Ipv4.Views.{view}
+use Rattle.wire_rules.specs.Ipv4.Claims.{SameHeader}
 use Rattle.gateway_rules.specs.Receiver.Reports.{Report, unanswered, reported, received, responseAfter, silence, response, reactionIn}
 
 -- a receiver: by how far the total length may reach, its ceiling and the bytes of the response buffer, what it reports of a packet
@@ -70,3 +71,7 @@ ReceivingTheorem = Receiving received
 -- whatever receiver has these reports what ours does, of every packet of bytes
 abbrev pub ReceivingOnly : Type 0
 ReceivingOnly = (receiver : Receiver) → Receiving receiver → (reach ceiling room : ℕ) (packet : List ℕ) → Bytes packet → receiver reach ceiling room packet ≡ received reach ceiling room packet
+
+-- no byte behind the header is read: of two packets that differ there alone the same is reported
+abbrev pub BehindHeader : Type 0
+BehindHeader = (reach ceiling room : ℕ) (p q : List ℕ) → SameHeader p q → received reach ceiling room q ≡ received reach ceiling room p

@@ -11,7 +11,7 @@ use lib.Dec.{eqb}
 use lib.ListN.{length, getD}
 use Rattle.common.specs.Choice.{pick}
 use Rattle.common.specs.Lists.{Bytes}
-use Rattle.refusals.specs.Reply.{Reply, answer, refuse, done, leaves, andThen}
+use Rattle.refusals.specs.Reply.{Reply, answer, refuse, done, leaves, andThen, Outcome}
 use Rattle.wire_rules.specs.declared.Request.{Request}
 use Rattle.wire_rules.specs.Options.Wire.{reservedIn}
 use Rattle.wire_rules.specs.Options.Claims.{Kept}
@@ -22,6 +22,7 @@ use Rattle.wire_rules.specs.Ipv4.Checksums.{sealed}
 use Rattle.wire_rules.specs.Ipv4.Checks.{headerChecked}
 use Rattle.wire_rules.specs.Ipv4.Packets.{located}
 use Rattle.wire_rules.specs.Ipv4.Views.{View, optionAt, view, put}
+use Rattle.wire_rules.specs.Ipv4.Claims.{SameHeader, LeftAlike, Alike}
 use Rattle.gateway_rules.specs.declared.Ledger.{Ledger}
 use Rattle.gateway_rules.specs.Ledgers.Rows.{total}
 use Rattle.gateway_rules.specs.Ledgers.Calls.{Link, lent, linkInRange, Granted, askReply}
@@ -206,6 +207,21 @@ pub record Ours : Type 0 where
   pub hops : OneHop routed
   pub silent : Silence silentlyRouted
   pub with-ledger : LedgerRouting routedByLedger
+
+-- ---- what stands behind the header
+
+-- what a router with a ledger says of two packets that differ behind the header alone, with the same link, and leaves of them and of it
+pub record AlikePassages (p q : List ℕ) (x y : Outcome (Unit {0}) Passage) : Type 0 where
+  pub said-is : y .said ≡ x .said
+  pub link-is : y .left .link ≡ x .left .link
+  pub packets : LeftAlike p q (x .left .packet) (y .left .packet)
+
+-- no byte behind the header is read or changed, whatever the packets are
+pub record BehindHeader : Type 0 where
+  pub router : (reach ceiling fresh : ℕ) (p q : List ℕ) → SameHeader p q → Alike p q (routed reach ceiling fresh p) (routed reach ceiling fresh q)
+  pub silent : (reach : ℕ) (p q : List ℕ) → SameHeader p q → Alike p q (silentlyRouted reach p) (silentlyRouted reach q)
+  pub with-ledger : (ceiling fresh tick : ℕ) (p q : List ℕ) (link : Link) → SameHeader p q
+      → AlikePassages p q (ledgerRouter ceiling fresh tick (passage p link)) (ledgerRouter ceiling fresh tick (passage q link))
 
 -- ---- the allowance in the packets
 

@@ -335,6 +335,9 @@ module _ (c : Connection) (ceiling : ℕ) (t : Transport) where
 
 pub leaving : Leaving
 leaving = record {
+  asks = λ c w buffer. refl;
+  receives = λ ceiling packet. refl;
+  takes = λ c response t. refl;
   nobody = λ packet. refl;
   goes-on = λ router rest packet new e. ap (λ (r : Reply (List ℕ)). onward packet r (travelBy hop rest)) e;
   stops = λ router rest packet n e. ap (λ (r : Reply (List ℕ)). onward packet r (travelBy hop rest)) e;

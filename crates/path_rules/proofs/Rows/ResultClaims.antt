@@ -239,6 +239,7 @@ forC = record {
       by-row Refusable (λ n h. h) (openFor code diff nonce) (not-waiting (record { code = code; «ttl_diff» = diff; nonce = nonce })) packet hops ceiling t bytes (either-row 64 hops);
   apart = apart;
   law = said-for-c;
+  own-state = λ code diff nonce. refl;
   own-in = own-in;
   own-only = λ code diff nonce r. r .state-in;
 }

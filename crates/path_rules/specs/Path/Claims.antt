@@ -20,7 +20,7 @@ use Rattle.gateway_rules.specs.Router.Claims.{touchingNothing}
 use Rattle.gateway_rules.specs.Router.Traffic.{codeLeft}
 use Rattle.gateway_rules.specs.Router.Routers.{routed, silentlyRouted}
 use Rattle.gateway_rules.specs.Receiver.Reports as Reports
-use Rattle.gateway_rules.specs.Receiver.Reports.{reported, responseAfter}
+use Rattle.gateway_rules.specs.Receiver.Reports.{reported, received, responseAfter}
 use Rattle.sender_rules.specs.declared.OpenRequest.{OpenRequest}
 use Rattle.sender_rules.specs.declared.Before.{Before}
 use Rattle.sender_rules.specs.declared.State.the-variants.{Idle, Asked, Quick}
@@ -218,6 +218,10 @@ pub record Running : Type 0 where
 
 -- the travel, hop by hop, and what a run leaves
 pub record Leaving : Type 0 where
+  -- the calls are the sender's own and the receiver's, with a response buffer of 8 bytes
+  pub asks : (c : Connection) (w : Wish) (buffer : List ℕ) → pathCalls .ask c w buffer ≡ senderCalls .ask c w buffer
+  pub receives : (ceiling : ℕ) (packet : List ℕ) → pathCalls .receive ceiling packet ≡ received (length packet) ceiling 8 packet
+  pub takes : (c : Connection) (response : List ℕ) (t : Transport) → pathCalls .takeResponse c response t ≡ senderCalls .takeResponse c response t
   pub nobody : (packet : List ℕ) → pathCalls .travel [] packet ≡ answering tt packet
   -- "on the packet as the last one left it"
   pub goes-on : (router : Router) (rest : List Router) (packet new : List ℕ) → hop router packet ≡ answer new → pathCalls .travel (router ∷ rest) packet ≡ pathCalls .travel rest new

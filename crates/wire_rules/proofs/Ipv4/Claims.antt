@@ -5,10 +5,10 @@ use Prim.Native.Nat.{ℕ, zero, suc, _%_}
 use mathlib.Core.Path.{_≡_, refl, sym, ap, _∙_}
 use native.Mathlib.Omega.{arith}
 use Rattle.wire_rules.specs.declared.Place.the-variants.{Nowhere, At}
-use Rattle.wire_rules.proofs.Walk.Claims.{walking}
+use Rattle.wire_rules.proofs.Walk.Claims.{walkingTheorem}
 use Rattle.wire_rules.specs.Ipv4.Headers.{optionsOf}
 use Rattle.wire_rules.specs.Ipv4.Checksums.{allOnes}
-use Rattle.wire_rules.specs.Ipv4.Claims.{wordTotal, Summing, Sealing, Reading, Locating, Viewing, Forwarding, EcnMarking}
+use Rattle.wire_rules.specs.Ipv4.Claims.{wordTotal, Summing, Sealing, Reading, Locating, Viewing, Forwarding, MarkingTheorem, MarkingOnly, MarkedStill, BehindHeader}
 use Rattle.wire_rules.proofs.Ipv4.ChecksumLaws.{folded, folded-limit, sum-folded, length-sealed}
 use Rattle.wire_rules.proofs.Ipv4.HeaderLaws.{form, good, checked-when}
 use Rattle.wire_rules.proofs.Ipv4.SealLaws.{sealed-others, bytes-sealed, sum-sealed, which, which-pass, passes}
@@ -17,6 +17,7 @@ use Rattle.wire_rules.proofs.Ipv4.SealLaws as seals
 use Rattle.wire_rules.proofs.Ipv4.ReadLaws as reads
 use Rattle.wire_rules.proofs.Ipv4.PutLaws as puts
 use Rattle.wire_rules.proofs.Ipv4.MarkLaws as marks
+use Rattle.wire_rules.proofs.Ipv4.BehindLaws as behind
 
 -- ---- the checksum
 
@@ -59,9 +60,9 @@ pub locating : Locating
 locating = record {
   inside = puts.at-place;
   refused = λ reach n packet e. ap (λ (r : Reply ℕ). andThen r (λ header. walked packet)) e;
-  complete = λ reach h offset packet e holds. located-of reach h packet (At offset) e (walking .complete (optionsOf packet) offset holds);
-  none-complete = λ reach h packet e clear. located-of reach h packet Nowhere e (walking .none-complete (optionsOf packet) clear);
-  fault-complete = λ reach h n packet e fault. located-fault reach h n packet e (walking .fault-complete (optionsOf packet) n fault);
+  complete = λ reach h offset packet e holds. located-of reach h packet (At offset) e (walkingTheorem .complete (optionsOf packet) offset holds);
+  none-complete = λ reach h packet e clear. located-of reach h packet Nowhere e (walkingTheorem .none-complete (optionsOf packet) clear);
+  fault-complete = λ reach h n packet e fault. located-fault reach h n packet e (walkingTheorem .fault-complete (optionsOf packet) n fault);
   sound = λ reach place packet e. let f = found reach packet (At place) e in made-of packet place (f .inner) (f .by-walk) (f .moved);
   none-sound = λ reach packet e. let f = found reach packet Nowhere e in made-clear packet (f .inner) (f .by-walk) (f .moved);
   fault-sound = made-faulty;
@@ -73,5 +74,14 @@ viewing = puts.viewing
 pub forwarding : Forwarding
 forwarding = puts.forwarding
 
-pub ecnMarking : EcnMarking
-ecnMarking = marks.ecnMarking
+pub markingTheorem : MarkingTheorem
+markingTheorem = marks.markingTheorem
+
+pub markingOnly : MarkingOnly
+markingOnly = marks.markingOnly
+
+pub markedStill : MarkedStill
+markedStill = marks.markedStill
+
+pub behindHeader : BehindHeader
+behindHeader = behind.behindHeader

@@ -1,17 +1,18 @@
 -- Laws of ECN marking. Assumes nothing.
-use Prim.Native.Nat.{ℕ, _+_, _*_, _/_, _%_}
-use mathlib.Core.Bool.{true, false}
+use Prim.Native.Nat.{ℕ, _+_, _*_, _/_, _%_, _≤_, _<_}
+use mathlib.Core.Bool.{Bool, true, false}
 use mathlib.Core.List.{List}
-use mathlib.Core.Logic.{inl}
+use mathlib.Core.Logic.{inl, ⊎-elim}
 use mathlib.Core.Option.{Option}
 use mathlib.Core.Path.{_≡_, refl, sym, ap, ap₂, _∙_}
 use native.Mathlib.Omega.{arith}
 use borrow.Author.Tests.{eqb-true, eqb-false}
+use lib.Dec.{eqb}
 use lib.ListN.{length, getD, set, take, length-set}
 use lib.Seq.{getD-set-same, getD-set-other, drop-set-lt}
 use Rattle.common.specs.Choice.{pick}
 use Rattle.common.specs.Lists.{Bytes}
-use Rattle.common.proofs.Choice.{clash, by-test}
+use Rattle.common.proofs.Choice.{clash, by-test, le-or-gt}
 use Rattle.common.proofs.Lists.{set-own, bytes-set}
 use Rattle.refusals.specs.Reply.{Reply, answer, refuse, andThen}
 use Rattle.wire_rules.specs.declared.Request.{Request}
@@ -26,11 +27,11 @@ use Rattle.wire_rules.specs.Ipv4.Checks.{wellFormed, headerChecked}
 use Rattle.wire_rules.specs.Ipv4.Packets.{inPacket, walked, located}
 use Rattle.wire_rules.specs.Ipv4.Marks.{Mark, marked, dropped, ectSet, withCe, markReply, afterMark, markedPacket}
 use Rattle.wire_rules.specs.Ipv4.Views.{asRequest, requestAt, view}
-use Rattle.wire_rules.specs.Ipv4.Claims.{EcnMarking}
+use Rattle.wire_rules.specs.Ipv4.Claims.{OutsideChecksum, EcnMarking, MarkingTheorem, MarkingOnly, MarkedStill}
 use Rattle.wire_rules.proofs.Ipv4.ChecksumLaws.{length-sealed}
 use Rattle.wire_rules.proofs.Ipv4.HeaderLaws.{form, Good, good}
 use Rattle.wire_rules.proofs.Ipv4.PacketLaws.{mark-refused, mark-drop, mark-marked}
-use Rattle.wire_rules.proofs.Ipv4.SealLaws.{sealed-others, no-checksum, bytes-sealed, passes, options-set, located-sealed}
+use Rattle.wire_rules.proofs.Ipv4.SealLaws.{sealed-others, no-checksum, bytes-sealed, passes, options-set, located-sealed, sealed-alike}
 use Rattle.wire_rules.proofs.Ipv4.OptionLaws.{found, viewed-by}
 use Rattle.wire_rules.proofs.Ipv4.ReadLaws.{set-form}
 use Rattle.wire_rules.proofs.Ipv4.PutLaws.{request-sealed}
@@ -140,8 +141,8 @@ module _ (packet : List ℕ) where
             (ap (λ (p : Place). requestAt p (sealed flagged)) (f .moved) ∙ flagged-request (f .inner) ∙ ap (λ (p : Place). requestAt p packet) (sym (f .moved)))
             ∙ sym (viewed-by (length packet) packet place l)
 
-pub ecnMarking : EcnMarking
-ecnMarking = record {
+pub markingTheorem : MarkingTheorem
+markingTheorem = record {
   dropped-when = λ h packet e l. sym (mark-drop packet h (sym e) (λ o. absurd (omega arith)) .0);
   marked-when = λ h packet e l. sym (mark-marked packet h (sym e) (omega arith) .0);
   refused-when = λ n packet e. sym (mark-refused packet n (sym e) .0);
@@ -157,11 +158,6 @@ ecnMarking = record {
       (λ m e. refl)
       (λ h e t. refl)
       (λ h e t. long-after packet h e);
-  bytes = λ packet b.
-      by-mark packet (λ (r : Reply Mark) (l : List ℕ). Bytes l)
-      (λ m e. b)
-      (λ h e t. b)
-      (λ h e t. bytes-sealed (flagged packet) (bytes-flagged packet b));
   bits = λ packet.
       by-mark packet (λ (r : Reply Mark) (l : List ℕ). r ≡ answer marked → (getD l ecnPlace 0 % 4 ≡ 3) × (getD l ecnPlace 0 / 4 ≡ byte packet / 4))
       (λ m e x. absurd (clash (cc)))
@@ -175,6 +171,15 @@ ecnMarking = record {
       (λ m e x. absurd (clash (cc)))
       (λ h e t x. absurd (clash (cc)))
       (λ h e t x. seals.again (length packet) (flagged packet) (form (length packet) (flagged packet) (flagged-well packet h e)));
+}
+
+pub markedStill : MarkedStill
+markedStill = record {
+  bytes = λ packet b.
+      by-mark packet (λ (r : Reply Mark) (l : List ℕ). Bytes l)
+      (λ m e. b)
+      (λ h e t. b)
+      (λ h e t. bytes-sealed (flagged packet) (bytes-flagged packet b));
   twice = λ packet b.
       by-mark packet (λ (r : Reply Mark) (l : List ℕ). (markReply l ≡ r) × (markedPacket l ≡ l))
       (λ n e. let m = mark-refused packet n (sym e) in (sym (m .0), sym (m .1)))
@@ -196,3 +201,56 @@ ecnMarking = record {
       (λ h e t. refl)
       (λ h e t. flagged-viewed packet h e b);
 }
+
+-- ---- one marking only
+
+-- a byte by its low two bits and the other six
+same-byte : (a b c : ℕ) → a % 4 ≡ 3 → a / 4 ≡ c / 4 → b % 4 ≡ 3 → b / 4 ≡ c / 4 → a ≡ b
+same-byte a b c x y z w = omega arith
+
+same-size : (x y : List ℕ) → getD x 0 0 ≡ getD y 0 0 → headerLength x ≡ headerLength y
+unfolding headerLength
+same-size x y e = ap (λ (b : ℕ). b % 16 * 4) e
+
+module _ (reply : List ℕ → Reply Mark) (left : List ℕ → List ℕ) (m : EcnMarking reply left) (packet : List ℕ) where
+  abbrev Same : Type 0
+  Same = (reply packet ≡ markReply packet) × (left packet ≡ markedPacket packet)
+
+  marked-alike : (h : ℕ) → headerChecked (length packet) packet ≡ answer h → reply packet ≡ answer marked → markReply packet ≡ answer marked → left packet ≡ markedPacket packet
+  marked-alike h e r s =
+      let f = is-good packet h e in
+      let ours = markingTheorem .bits packet s in
+      let theirs = m .bits packet r in
+      let size = same-size (left packet) packet (m .others packet 0 (λ x. absurd (omega arith)) (no-checksum 0 (inl (omega arith)))) in
+      let own-size = same-size (markedPacket packet) packet (markingTheorem .others packet 0 (λ x. absurd (omega arith)) (no-checksum 0 (inl (omega arith)))) in
+      let long = m .long packet in
+      sym (m .written packet r)
+      ∙ sealed-alike (left packet) (markedPacket packet) (long ∙ sym (markingTheorem .long packet)) (omega (arith, f .form-is .long)) (omega (arith, f .header)) (size ∙ sym own-size)
+      (λ i o. by-ecn (eqb i 1) i refl o (same-byte _ _ _ (theirs .0) (theirs .1) (ours .0) (ours .1)))
+      ∙ markingTheorem .written packet s
+    where
+      by-ecn : (t : Bool) (i : ℕ) → eqb i 1 ≡ t → OutsideChecksum i → getD (left packet) 1 0 ≡ getD (markedPacket packet) 1 0 → getD (left packet) i 0 ≡ getD (markedPacket packet) i 0
+      by-ecn true i e o same = let s : 1 ≡ i = sym (eqb-true i 1 e) in rw (sym s) same
+      by-ecn false i e o same = m .others packet i (eqb-false i 1 e) o ∙ sym (markingTheorem .others packet i (eqb-false i 1 e) o)
+
+  only-one : (r : Reply ℕ) → headerChecked (length packet) packet ≡ r → Same
+  only-one (refuse n) e =
+      let x = m .refused-when n packet e in
+      let y = markingTheorem .refused-when n packet e in
+      (x ∙ sym y, m .refused-same n packet x ∙ sym (markingTheorem .refused-same n packet y))
+  only-one (answer h) e = ⊎-elim to-mark to-drop (le-or-gt 2 (getD packet 1 0 % 4))
+    where
+      to-mark : 2 ≤ getD packet 1 0 % 4 → Same
+      to-mark l =
+          let x = m .marked-when h packet e l in
+          let y = markingTheorem .marked-when h packet e l in
+          (x ∙ sym y, marked-alike h e x y)
+
+      to-drop : getD packet 1 0 % 4 < 2 → Same
+      to-drop l =
+          let x = m .dropped-when h packet e l in
+          let y = markingTheorem .dropped-when h packet e l in
+          (x ∙ sym y, m .dropped-same packet x ∙ sym (markingTheorem .dropped-same packet y))
+
+pub markingOnly : MarkingOnly
+markingOnly reply left m packet = only-one reply left m packet (headerChecked (length packet) packet) refl

@@ -18,7 +18,7 @@ use Rattle.wire_rules.specs.declared.Place.{Place}
 use Rattle.wire_rules.specs.declared.Place.the-variants.{Nowhere, At}
 use Rattle.wire_rules.specs.Walk.Walks.{walk}
 use Rattle.wire_rules.specs.Walk.Claims.{Holds, Clear, Faulty}
-use Rattle.wire_rules.proofs.Walk.Claims.{walking}
+use Rattle.wire_rules.proofs.Walk.Claims.{walkingTheorem}
 use Rattle.wire_rules.specs.Ipv4.Headers.{optionsPlace, wordAt, ipTtl, headerLength, headerOf, optionsOf}
 use Rattle.wire_rules.specs.Ipv4.Checks.{headerChecked}
 use Rattle.wire_rules.specs.Ipv4.Packets.{inPacket, walked, located}
@@ -45,7 +45,7 @@ pub inside-at : (reach : ℕ) (packet : List ℕ) (o : ℕ) → Good reach packe
 inside-at reach packet o g e =
     let h = headerLength packet in
     let f = g .form-is in
-    let r = walking .room (optionsOf packet) o e in
+    let r = walkingTheorem .room (optionsOf packet) o e in
     let long : length (optionsOf packet) ≡ h - optionsPlace = length-drop optionsPlace (headerOf packet) ∙ ap (λ (n : ℕ). n - optionsPlace) (length-take-le h packet (f .inside)) in
     let read : (i : ℕ) → optionsPlace + i < h → getD (optionsOf packet) i 0 ≡ getD packet (optionsPlace + i) 0 =
     λ i l. getD-drop optionsPlace (headerOf packet) i 0 ∙ getD-take h packet (optionsPlace + i) 0 l in
@@ -74,10 +74,10 @@ located-fault reach h n packet e w =
 pub made-of : (packet : List ℕ) (place : ℕ) (inner : Place) → walk (optionsOf packet) ≡ answer inner → At place ≡ inPacket inner
     → (offset : ℕ) × (place ≡ optionsPlace + offset) × Holds offset (optionsOf packet)
 made-of packet place Nowhere w e = absurd (clash (cc))
-made-of packet place (At o) w e = (o, (cc), walking .sound (optionsOf packet) o w)
+made-of packet place (At o) w e = (o, (cc), walkingTheorem .sound (optionsOf packet) o w)
 
 pub made-clear : (packet : List ℕ) (inner : Place) → walk (optionsOf packet) ≡ answer inner → Nowhere ≡ inPacket inner → Clear (optionsOf packet)
-made-clear packet Nowhere w e = walking .none-sound (optionsOf packet) w
+made-clear packet Nowhere w e = walkingTheorem .none-sound (optionsOf packet) w
 made-clear packet (At o) w e = absurd (clash (cc))
 
 -- and what is wrong where the packet was refused: its header, or its area
@@ -85,7 +85,7 @@ pub made-faulty : (reach n : ℕ) (packet : List ℕ) → located reach packet �
 made-faulty reach n packet e = by-check (refused-by (headerChecked reach packet) (λ header. walked packet) n e)
   where
     by-walk : (walk (optionsOf packet) ≡ refuse n) ⊎ ((a : Place) × (walk (optionsOf packet) ≡ answer a) × (answer (inPacket a) ≡ refuse n)) → Faulty n (optionsOf packet)
-    by-walk (inl w) = walking .fault-sound (optionsOf packet) n w
+    by-walk (inl w) = walkingTheorem .fault-sound (optionsOf packet) n w
     by-walk (inr (a, w, x)) = absurd (clash (cc))
 
     by-check : (headerChecked reach packet ≡ refuse n) ⊎ ((h : ℕ) × (headerChecked reach packet ≡ answer h) × (walked packet ≡ refuse n))

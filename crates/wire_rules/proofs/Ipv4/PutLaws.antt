@@ -53,7 +53,7 @@ place-low Nowhere o e = absurd (clash (cc))
 place-low (At i) o e = let s : optionsPlace + i ≡ o = cc in omega arith
 
 -- put writes at the place that the walk finds
-put-at : (packet : List ℕ) (inner : Place) (v : View) → walk (optionsOf packet) ≡ answer inner
+pub put-at : (packet : List ℕ) (inner : Place) (v : View) → walk (optionsOf packet) ≡ answer inner
     → put packet v ≡ sealed (putRequest (inPacket inner) (v .request) (set packet ttlPlace (v .ttl)))
 put-at packet inner v e =
     ap (λ (w : Reply Place). sealed (putRequest (leaves Nowhere (andThen w (λ place. answer (inPacket place)))) (v .request) (set packet ttlPlace (v .ttl)))) e

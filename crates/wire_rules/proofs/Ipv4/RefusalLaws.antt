@@ -9,7 +9,7 @@ use Rattle.refusals.proofs.ReplyLaws.{RefusedBy, chosen-by, then-by}
 use Rattle.wire_rules.specs.declared.Place.{Place}
 use Rattle.wire_rules.specs.Walk.Walks.{walk}
 use Rattle.wire_rules.specs.Walk.Claims.{Faulty, bad-length, other-length, second}
-use Rattle.wire_rules.proofs.Walk.Claims.{walking}
+use Rattle.wire_rules.proofs.Walk.Claims.{walkingTheorem}
 use Rattle.wire_rules.specs.Ipv4.Headers.{ipTtl, headerOf, optionsOf}
 use Rattle.wire_rules.specs.Ipv4.Checksums.{allOnes, onesSum}
 use Rattle.wire_rules.specs.Ipv4.Checks.{wellFormed, headerChecked}
@@ -32,7 +32,7 @@ module _ (P : ℕ → Type 0) (one : P 1) (two : P 2) where
 
     walked-by : (area : List ℕ) (r : Reply Place) → walk area ≡ r → RefusedBy P r
     walked-by area (answer place) e = tt
-    walked-by area (refuse n) e = fault-by n area (walking .fault-sound area n e)
+    walked-by area (refuse n) e = fault-by n area (walkingTheorem .fault-sound area n e)
 
     pub view-by : (reach : ℕ) (packet : List ℕ) → RefusedBy P (view reach packet)
     view-by reach packet =

@@ -1,14 +1,16 @@
--- Laws of a sealed packet: it passes the check, it differs in the checksum alone, and its options are where they were. Assumes nothing.
+-- Laws of a sealed packet: it passes the check, it differs in the checksum alone, its options are where they were, and packets that agree
+-- outside the checksum are sealed alike. Assumes nothing.
 use Prim.Native.Nat.{ℕ, suc, _+_, _-_, _*_, _/_, _%_, _≤_, _<_}
 use mathlib.Core.Bool.{true}
 use mathlib.Core.List.{List}
-use mathlib.Core.Logic.{_⊎_, inl, inr}
+use mathlib.Core.Logic.{_⊎_, inl, inr, ⊎-elim}
 use mathlib.Core.Path.{_≡_, refl, sym, ap, ap₂, subst, _∙_}
 use native.Mathlib.Nat.{le-refl}
 use native.Mathlib.Omega.{arith}
-use lib.ListN.{length, getD, set, take, drop}
-use lib.Seq.{take-take, length-take-le, getD-take, getD-set-other, take-set-lt, drop-set-lt}
+use lib.ListN.{length, getD, set, take, drop, length-set}
+use lib.Seq.{take-take, length-take-le, getD-take, getD-set-same, getD-set-other, take-set-lt, drop-set-lt, ext-getD}
 use Rattle.common.specs.Lists.{Bytes}
+use Rattle.common.proofs.Choice.{le-or-gt}
 use Rattle.common.proofs.Lists.{set-own, bytes-part}
 use Rattle.refusals.specs.Reply.{Reply, answer, andThen}
 use Rattle.wire_rules.specs.Walk.Walks.{walk}
@@ -17,7 +19,7 @@ use Rattle.wire_rules.specs.Ipv4.Checksums.{allOnes, onesSum, withChecks
 use Rattle.wire_rules.specs.Ipv4.Checks.{wellFormed, headerChecked}
 use Rattle.wire_rules.specs.Ipv4.Packets.{inPacket, walked, located}
 use Rattle.wire_rules.specs.Ipv4.Claims.{OutsideChecksum, ValidChecksum, wordTotal, HeaderForm}
-use Rattle.wire_rules.proofs.Ipv4.ChecksumLaws.{folded, checksum-is, fills, fills-only, fills-all, sum-field, sealed-sum, field-twice, take-field, bytes-field, length-sealed}
+use Rattle.wire_rules.proofs.Ipv4.ChecksumLaws.{folded, checksum-is, fills, fills-only, fills-all, sum-field, sealed-sum, field-twice, take-field, bytes-field, length-field, in-steps, length-sealed}
 use Rattle.wire_rules.proofs.Ipv4.HeaderLaws.{form, formed, least, length-kept, checked-when}
 
 -- ---- packets that agree in what a well-formed header depends on
@@ -181,3 +183,44 @@ pub located-sealed : (reach : ℕ) (packet : List ℕ) → Bytes packet → well
 located-sealed reach packet b w =
     ap (λ (r : Reply ℕ). andThen r (λ header. walked (sealed packet))) (passes reach packet b w)
     ∙ ap (λ (area : List ℕ). andThen (walk area) (λ place. answer (inPacket place))) (options-sealed packet (least reach packet (form reach packet w)))
+
+-- ---- packets that agree outside the checksum
+
+-- a place is before the checksum's field, one of its two bytes, or behind it
+by-field : (P : ℕ → Type 0) (i : ℕ) → P 10 → P 11 → (OutsideChecksum i → P i) → P i
+by-field P i ten eleven other = ⊎-elim low high (le-or-gt i 9)
+  where
+    low : i ≤ 9 → P i
+    low h = other ((λ e. omega arith), (λ e. omega arith))
+
+    above : 11 < i → P i
+    above h = other ((λ e. omega arith), (λ e. omega arith))
+
+    high : 9 < i → P i
+    high h =
+        ⊎-elim
+        (λ (l : i ≤ 10). let e : 10 ≡ i = omega arith in rw (sym e) ten)
+        (λ (g : 10 < i). ⊎-elim (λ (l : i ≤ 11). let e : 11 ≡ i = omega arith in rw (sym e) eleven) above (le-or-gt i 11))
+        (le-or-gt i 10)
+
+zeroed-first : (p : List ℕ) → 12 ≤ length p → getD (withChecksum 0 p) 10 0 ≡ 0
+unfolding withChecksum
+zeroed-first p h = getD-set-other (set p 10 0) 11 10 0 0 (λ e. absurd (omega arith)) ∙ getD-set-same p 10 0 0 (omega arith)
+
+zeroed-second : (p : List ℕ) → 12 ≤ length p → getD (withChecksum 0 p) 11 0 ≡ 0
+unfolding withChecksum
+zeroed-second p h = getD-set-same (set p 10 0) 11 0 0 (rw (length-set p 10 0) (omega arith))
+
+-- packets that agree outside the checksum are sealed alike
+pub sealed-alike : (p q : List ℕ) → length p ≡ length q → 12 ≤ length p → 12 ≤ headerLength p → headerLength p ≡ headerLength q
+    → ((i : ℕ) → OutsideChecksum i → getD p i 0 ≡ getD q i 0) → sealed p ≡ sealed q
+sealed-alike p q long room size header agree =
+    let zeros : withChecksum 0 p ≡ withChecksum 0 q =
+    ext-getD 0 (withChecksum 0 p) (withChecksum 0 q) (length-field 0 p ∙ long ∙ sym (length-field 0 q)) (λ i l.
+    by-field (λ (k : ℕ). getD (withChecksum 0 p) k 0 ≡ getD (withChecksum 0 q) k 0) i
+    (zeroed-first p room ∙ sym (zeroed-first q (omega arith)))
+    (zeroed-second p room ∙ sym (zeroed-second q (omega arith)))
+    (λ o. field-others 0 p i o ∙ agree i o ∙ sym (field-others 0 q i o))) in
+    sym (in-steps p size)
+    ∙ ap₂ (λ (h : ℕ) (z : List ℕ). withChecksum (allOnes - onesSum (take h z)) z) header zeros
+    ∙ in-steps q (omega arith)

@@ -21,7 +21,7 @@ use Rattle.wire_rules.proofs.Options.WireLaws.{bytes-of}
 use Rattle.wire_rules.specs.declared.Place.{Place}
 use Rattle.wire_rules.specs.declared.Place.the-variants.{Nowhere, At}
 use Rattle.wire_rules.specs.Walk.Walks.{walk}
-use Rattle.wire_rules.proofs.Walk.Claims.{walking}
+use Rattle.wire_rules.proofs.Walk.Claims.{walkingTheorem}
 use Rattle.wire_rules.specs.Ipv4.Headers.{leastHeader, optionsPlace, ttlPlace, ipTtl, headerLength, optionsOf}
 use Rattle.wire_rules.specs.Ipv4.Packets.{inPacket}
 use Rattle.wire_rules.specs.Ipv4.Views.{optionAt, asRequest, requestAt, putRequest}
@@ -187,7 +187,7 @@ module _ (reach : ℕ) (packet : List ℕ) (b : Bytes packet) (g : Good reach pa
         ∙ ap (λ (l : List ℕ). sets l (o + 2) six)
         (ap (λ (h : ℕ). drop optionsPlace (take h aged)) (sym (length-kept packet ttlPlace ttl (omega arith)))
         ∙ options-set packet ttlPlace ttl (omega arith) (omega arith) (g .header)) in
-        ap walk area ∙ walking .steady (optionsOf packet) six o refl by-walk ∙ sym by-walk
+        ap walk area ∙ walkingTheorem .steady (optionsOf packet) six o refl by-walk ∙ sym by-walk
 
     request-stored : Stored (At place) packet ttl (some r) rewritten
     request-stored = record {

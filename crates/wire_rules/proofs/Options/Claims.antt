@@ -1,12 +1,13 @@
--- The claims of specs/Options/Claims.antt: the round trips, from the laws of the eight bytes, the lowering, from the laws of the nonce, and
--- the refusals. Assumes nothing.
+-- The claims of specs/Options/Claims.antt: the round trips, from the laws of the eight bytes, the lowering, from the laws of the nonce, the
+-- refusals, and the eight bytes one by one. Assumes nothing.
 use Prim.Native.Nat.{ℕ, _+_, _*_, _/_, _%_, _≤_, _<_}
 use mathlib.Core.Bool.{true, false, _&&_}
 use mathlib.Core.List.{List}
-use mathlib.Core.Path.{_≡_, refl, sym, ap, _∙_}
+use mathlib.Core.Path.{_≡_, refl, sym, ap, subst, _∙_}
+use native.Mathlib.Nat.{add-zero}
 use native.Mathlib.Omega.{arith}
 use borrow.Author.Tests.{eq-eqb, ne-eqb, le-leb, lt-ltb, eqb-true, leb-true, ltb-true}
-use lib.Dec.{eqb, leb, ltb}
+use lib.Dec.{eqb, leb, ltb, lit<}
 use lib.ListN.{length, getD}
 use Rattle.common.specs.Lists.{Bytes}
 use Rattle.common.proofs.Choice.{both-true, untrue}
@@ -15,11 +16,11 @@ use Rattle.refusals.proofs.ReplyLaws.{passed, answered}
 use Rattle.wire_rules.specs.Rates.Steps.{topCode}
 use Rattle.wire_rules.specs.declared.Request.{Request}
 use Rattle.wire_rules.specs.declared.Response.{Response}
-use Rattle.wire_rules.specs.Options.Wire.{optionLength, nonceLimit, fieldsFit, optionBytes, optionWritten, kindIn, lengthIn, highHalf, rateIn, ttlIn, nonceIn, reservedIn}
+use Rattle.wire_rules.specs.Options.Wire.{optionLength, nonceLimit, fieldsFit, optionBytes, optionWritten, kindIn, lengthIn, highHalf, rateIn, ttlIn, wordOf, nonceIn, reservedIn}
 use Rattle.wire_rules.specs.Options.Requests.{isRequest, requestRead, requestRewritten}
 use Rattle.wire_rules.specs.Options.Responses.{ttlDiff, isResponse, responseRead}
-use Rattle.wire_rules.specs.Options.Claims.{RequestRoundTrip, ResponseRoundTrip, TtlDiffs, Lowering, Agreeing, IsRequest, IsResponse, Writable, Refusing}
-use Rattle.wire_rules.proofs.Options.WireLaws.{Fit, fit-facts, word-back, word-small, bytes-back}
+use Rattle.wire_rules.specs.Options.Claims.{RequestRoundTrip, ResponseRoundTrip, TtlDiffs, Lowering, Agreeing, IsRequest, IsResponse, Writable, Refusing, Bytewise, Layout, Fields}
+use Rattle.wire_rules.proofs.Options.WireLaws.{Fit, fit-facts, word-again, word-back, word-small, bytes-of, bytes-back}
 use Rattle.wire_rules.proofs.Options.NonceLaws as nonces
 
 -- ---- what eight bytes written from fields read back as
@@ -175,6 +176,7 @@ responseRoundTrip = record {
 pub ttlDiffs : TtlDiffs
 unfolding ttlDiff
 ttlDiffs = record {
+  top = refl;
   byte = λ ttl qs. omega arith;
   rule = λ ttl qs t q. omega arith;
   only = λ ttl qs diff t q d e. omega arith;
@@ -235,3 +237,51 @@ refusing = record {
   compare = λ code a b c l r. simp (le-leb code topCode c, lt-ltb a nonceLimit l, lt-ltb b nonceLimit r);
   compare-seven = λ code a b f. simp (no-comparison code a b f);
 }
+
+-- ---- byte by byte
+
+yes-request : (option : List ℕ) → IsRequest option → isRequest option ≡ true
+unfolding isRequest
+yes-request option i = simp (eq-eqb _ _ (i .kind-is), eq-eqb _ _ (i .length-is), eq-eqb _ _ (i .function-is))
+
+yes-response : (option : List ℕ) → IsResponse option → isResponse option ≡ true
+unfolding isResponse
+yes-response option i = simp (eq-eqb _ _ (i .kind-is), eq-eqb _ _ (i .length-is))
+
+-- the eight bytes of an option, one by one
+bytewise : (kind rate ttl nonce reserved : ℕ) → kind < 256 → rate ≤ topCode → nonce < nonceLimit → reserved < 4
+    → Bytewise kind rate ttl (nonce * 4 + reserved) (optionBytes kind rate ttl nonce reserved)
+unfolding optionBytes
+bytewise kind rate ttl nonce reserved k r n s = record {
+  long = refl;
+  kind-is = refl;
+  length-is = refl;
+  rate-is = refl;
+  ttl-is = refl;
+  word-is = word-again nonce reserved;
+  bytes = λ t. bytes-of kind rate ttl nonce reserved k (omega arith) t n s;
+}
+
+-- an option that was written anew
+written-bytewise : (kind : ℕ) (old new : List ℕ) (rate ttl nonce : ℕ) → kind < 256 → optionWritten kind old rate ttl nonce ≡ answer new → Bytewise kind rate ttl (nonce * 4) new
+written-bytewise kind old new rate ttl nonce k e =
+    let w = new-option kind old new rate ttl nonce e in
+    subst (λ (l : List ℕ). Bytewise kind rate ttl (nonce * 4) l) (sym (w .1))
+    (subst (λ (n : ℕ). Bytewise kind rate ttl n (optionBytes kind rate ttl nonce 0)) (add-zero (nonce * 4))
+    (bytewise kind rate ttl nonce 0 k (w .0 .code-high) (w .0 .nonce-small) (omega arith)))
+
+pub layout : Layout
+unfolding wordOf
+layout = record {
+  request-read = λ option l i. simp (eq-eqb (length option) optionLength l, yes-request option i);
+  response-read = λ option l i. simp (eq-eqb (length option) optionLength l, yes-response option i);
+  request-written = λ old new rate ttl nonce e. written-bytewise 25 old new rate ttl nonce (lit< tt) e;
+  response-written = λ old new rate diff nonce e. written-bytewise 27 old new rate diff nonce (lit< tt) e;
+  request-rewritten = λ old new rate ttl nonce e.
+      let w = changed-option old new rate ttl nonce e in
+      subst (λ (l : List ℕ). Bytewise 25 rate ttl (nonce * 4 + reservedIn old) l) (sym (w .1))
+      (bytewise 25 rate ttl nonce (reservedIn old) (lit< tt) (w .0 .code-high) (w .0 .nonce-small) (omega arith));
+}
+
+pub fields : Fields
+fields = nonces.fields

@@ -9,11 +9,11 @@ use lib.Arith.{digits-lt, digits-div, digits-mod}
 use lib.Dec.{lit<}
 use borrow.Author.Tests.{le-ltb, eq-eqb, eqb-true}
 use Rattle.common.proofs.Choice.{by-ltb, le-or-gt}
-use Rattle.common.proofs.Digits.{power-pos, power-split, low-low, digit-of-low, digit-same-low, digit-same-high, digits-same, same-digits}
+use Rattle.common.proofs.Digits.{power-pos, power-split, low-low, high-high, digit-of-low, digit-same-low, digit-same-high, digits-same, same-digits}
 use Rattle.wire_rules.specs.Rates.Steps.{topCode}
 use Rattle.wire_rules.specs.Options.Wire.{nonceLimit}
 use Rattle.wire_rules.specs.Options.Nonces.{fieldOf, fieldsUpTo, lowered, agree}
-use Rattle.wire_rules.specs.Options.Claims.{Kept, Lowering, Agreeing}
+use Rattle.wire_rules.specs.Options.Claims.{Kept, Lowering, Agreeing, Fields}
 
 four : 0 < 4
 four = lit< tt
@@ -135,4 +135,21 @@ agreeing = record {
   fields = λ code a b e k l h. digit-same-low 4 four a b (k - 1) code (eqb-true (a % 4 ^ code) (b % 4 ^ code) e) (omega arith);
   whole = λ code a b f. eq-eqb (a % 4 ^ code) (b % 4 ^ code) (same-fields code a b f);
   honest = λ old new nonce fresh h. eq-eqb (nonce % 4 ^ new) (lowered old new nonce fresh % 4 ^ new) (sym (keeps old new nonce fresh h .low));
+}
+
+-- ---- where the fields stand
+
+next-field : (code nonce : ℕ) → 1 ≤ code → fieldOf (code + 1) nonce ≡ fieldOf code (nonce / 4)
+unfolding fieldOf
+next-field code nonce h =
+    let own : code + 1 - 1 ≡ code = omega arith in
+    ap (λ (k : ℕ). nonce / 4 ^ k % 4) own ∙ sym (ap (λ (k : ℕ). k % 4) (high-high 4 (lit< tt) nonce 1 code h))
+
+pub fields : Fields
+unfolding fieldOf fieldsUpTo
+fields = record {
+  highest = λ nonce h. omega arith;
+  lowest = λ nonce. omega arith;
+  next = next-field;
+  up-to = λ code nonce. refl;
 }

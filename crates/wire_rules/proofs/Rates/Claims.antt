@@ -1,5 +1,5 @@
 -- The claims of specs/Rates/Claims.antt, from the laws of the steps and of the window. Assumes nothing.
-use Prim.Native.Nat.{ℕ, _≤_}
+use Prim.Native.Nat.{ℕ, zero, suc, _*_, _^_, _≤_}
 use mathlib.Core.Bool.{true, false}
 use mathlib.Core.Path.{_≡_, refl, sym}
 use mathlib.Core.Logic.{⊎-elim}
@@ -74,9 +74,17 @@ out-of-ranges code rtt mss headers f = untrue (windowInRange code rtt mss header
       headers-high = t .headers-high;
     }))
 
+-- the rate of a code that is not 0
+rate-steps : (code : ℕ) → 1 ≤ code → rateOf code ≡ 40000 * 2 ^ code
+unfolding rateOf
+rate-steps zero h = absurd (omega arith)
+rate-steps (suc n) h = refl
+
 pub ranges : Ranges
-unfolding windowBytes
+unfolding windowBytes rateOf
 ranges = record {
+  no-rate = refl;
+  steps = rate-steps;
   rate = λ code h. simp (le-leb code topCode h);
   rate-seven = λ code h. simp (lt-leb code topCode h);
   up = λ wish h. simp (le-leb 1 wish h);

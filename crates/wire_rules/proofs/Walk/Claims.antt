@@ -15,7 +15,7 @@ use Rattle.wire_rules.specs.Options.Requests.{requestKind}
 use Rattle.wire_rules.specs.declared.Place.{Place}
 use Rattle.wire_rules.specs.declared.Place.the-variants.{Nowhere, At}
 use Rattle.wire_rules.specs.Walk.Walks.{Next, fault, look, goOn, walkOn, walk}
-use Rattle.wire_rules.specs.Walk.Claims.{Skipped, none, filler, last, Clear, quickStartOption, Holds, Passed, no-option, one-option, Faulty, bad-length, other-length, second, Walking, ShutOut}
+use Rattle.wire_rules.specs.Walk.Claims.{Skipped, none, filler, last, Clear, quickStartOption, Holds, Passed, no-option, one-option, Faulty, bad-length, other-length, second, Walking, WalkingTheorem, WalkingOnly, ShutOut}
 use Rattle.wire_rules.proofs.Walk.WalkLaws.{reads-bad, reads-wrong, reads-second, looks, step, fits-low, fits-high, no-fit, in-fit, fit-fails}
 use Rattle.wire_rules.proofs.Walk.AreaLaws.{skip, clear-yields, found, at-once, behind, Yields, clear, holds, breaks, yields}
 
@@ -160,8 +160,8 @@ fault-sound area n (breaks m e (behind before six between left p o x s f t w l))
     subst (λ (k : ℕ). Faulty k area) same
     (subst (λ (y : List ℕ). Faulty m y) (sym w) (faulty-behind m p before six between left s f t (says (At p) o m left l)))
 
-pub walking : Walking walk
-walking = record {
+pub walkingTheorem : WalkingTheorem
+walkingTheorem = record {
   sound = sound;
   complete = complete;
   room = λ area offset e. room area offset (sound area offset e);
@@ -182,6 +182,18 @@ walking = record {
         clear = h .clear;
       });
 }
+
+-- whatever ours yields of an area, another such walk yields of it
+pub walkingOnly : WalkingOnly
+walkingOnly other w area = by-ours (walk area) refl
+  where
+    by-place : (place : Place) → walk area ≡ answer place → other area ≡ answer place
+    by-place Nowhere e = w .none-complete area (walkingTheorem .none-sound area e)
+    by-place (At offset) e = w .complete area offset (walkingTheorem .sound area offset e)
+
+    by-ours : (r : Reply Place) → walk area ≡ r → other area ≡ walk area
+    by-ours (answer place) e = by-place place e ∙ sym e
+    by-ours (refuse n) e = w .fault-complete area n (walkingTheorem .fault-sound area n e) ∙ sym e
 
 -- ---- walks that are shut out
 

@@ -8,9 +8,9 @@ use mathlib.Core.Logic.{_⊎_}
 use mathlib.Core.Option.{Option, none, some}
 use mathlib.Core.Path.{_≡_}
 use lib.Dec.{leb}
-use lib.ListN.{length, getD}
+use lib.ListN.{length, getD, take}
 use Rattle.common.specs.Lists.{Bytes}
-use Rattle.refusals.specs.Reply.{answer, refuse}
+use Rattle.refusals.specs.Reply.{Reply, answer, refuse, leaves, done}
 use Rattle.wire_rules.specs.Rates.Steps.{topCode}
 use Rattle.wire_rules.specs.declared.Request.{Request}
 use Rattle.wire_rules.specs.Options.Wire.{nonceLimit, reservedIn}
@@ -21,7 +21,7 @@ use Rattle.wire_rules.specs.Ipv4.Headers.{wordAt, headerLength, totalLen
 use Rattle.wire_rules.specs.Ipv4.Checksums.{onesSum, checksumOf, sealed}
 use Rattle.wire_rules.specs.Ipv4.Checks.{wellFormed, headerChecked}
 use Rattle.wire_rules.specs.Ipv4.Packets.{ttlReply, walked, located, sealedReply, passedOn, forwarded}
-use Rattle.wire_rules.specs.Ipv4.Marks.{marked, dropped, markReply, markedPacket}
+use Rattle.wire_rules.specs.Ipv4.Marks.{Mark, marked, dropped, markReply, markedPacket}
 use Rattle.wire_rules.specs.Ipv4.Views.{View, optionAt, view, putRequest, put}
 
 -- ---- the checksum
@@ -209,26 +209,66 @@ pub record Forwarding : Type 0 where
   pub passes : (reach : ℕ) (packet new : List ℕ) → Bytes packet → passedOn reach packet ≡ answer new → headerChecked reach new ≡ answer (headerLength packet)
   pub options-still : (reach : ℕ) (packet new : List ℕ) → Bytes packet → passedOn reach packet ≡ answer new → located reach new ≡ walked packet
 
-pub record EcnMarking : Type 0 where
+-- a marking, by what it answers of a packet and the packet that it leaves
+pub record EcnMarking (reply : List ℕ → Reply Mark) (left : List ℕ → List ℕ) : Type 0 where
   -- by the two bits: 00 and 01 have ECT clear, 10 and 11 have it set
-  pub dropped-when : (h : ℕ) (packet : List ℕ) → headerChecked (length packet) packet ≡ answer h → getD packet 1 0 % 4 < 2 → markReply packet ≡ answer dropped
-  pub marked-when : (h : ℕ) (packet : List ℕ) → headerChecked (length packet) packet ≡ answer h → 2 ≤ getD packet 1 0 % 4 → markReply packet ≡ answer marked
-  pub refused-when : (n : ℕ) (packet : List ℕ) → headerChecked (length packet) packet ≡ refuse n → markReply packet ≡ refuse n
+  pub dropped-when : (h : ℕ) (packet : List ℕ) → headerChecked (length packet) packet ≡ answer h → getD packet 1 0 % 4 < 2 → reply packet ≡ answer dropped
+  pub marked-when : (h : ℕ) (packet : List ℕ) → headerChecked (length packet) packet ≡ answer h → 2 ≤ getD packet 1 0 % 4 → reply packet ≡ answer marked
+  pub refused-when : (n : ℕ) (packet : List ℕ) → headerChecked (length packet) packet ≡ refuse n → reply packet ≡ refuse n
   -- no byte changes where the packet is to be dropped, or is refused
-  pub dropped-same : (packet : List ℕ) → markReply packet ≡ answer dropped → markedPacket packet ≡ packet
-  pub refused-same : (n : ℕ) (packet : List ℕ) → markReply packet ≡ refuse n → markedPacket packet ≡ packet
+  pub dropped-same : (packet : List ℕ) → reply packet ≡ answer dropped → left packet ≡ packet
+  pub refused-same : (n : ℕ) (packet : List ℕ) → reply packet ≡ refuse n → left packet ≡ packet
   -- marking changes no byte but the second and the checksum
-  pub others : (packet : List ℕ) (i : ℕ) → (i ≡ 1 → ⊥) → OutsideChecksum i → getD (markedPacket packet) i 0 ≡ getD packet i 0
-  pub long : (packet : List ℕ) → length (markedPacket packet) ≡ length packet
-  pub bytes : (packet : List ℕ) → Bytes packet → Bytes (markedPacket packet)
+  pub others : (packet : List ℕ) (i : ℕ) → (i ≡ 1 → ⊥) → OutsideChecksum i → getD (left packet) i 0 ≡ getD packet i 0
+  pub long : (packet : List ℕ) → length (left packet) ≡ length packet
   -- of the second byte it sets both ECN bits, and keeps the other six
-  pub bits : (packet : List ℕ) → markReply packet ≡ answer marked
-      → (getD (markedPacket packet) 1 0 % 4 ≡ 3) × (getD (markedPacket packet) 1 0 / 4 ≡ getD packet 1 0 / 4)
-  -- "sets CE and the checksum": the checksum is the one that sealing writes
-  pub written : (packet : List ℕ) → markReply packet ≡ answer marked → sealed (markedPacket packet) ≡ markedPacket packet
+  pub bits : (packet : List ℕ) → reply packet ≡ answer marked → (getD (left packet) 1 0 % 4 ≡ 3) × (getD (left packet) 1 0 / 4 ≡ getD packet 1 0 / 4)
+  -- "sets CE and the checksum": the checksum is the one that sealing writes, where CE was set before, too
+  pub written : (packet : List ℕ) → reply packet ≡ answer marked → sealed (left packet) ≡ left packet
+
+-- ours has them, and whatever marks so is ours, in its answer and byte by byte
+abbrev pub MarkingTheorem : Type 0
+MarkingTheorem = EcnMarking markReply markedPacket
+
+abbrev pub MarkingOnly : Type 0
+MarkingOnly = (reply : List ℕ → Reply Mark) (left : List ℕ → List ℕ) → EcnMarking reply left → (packet : List ℕ) → (reply packet ≡ markReply packet) × (left packet ≡ markedPacket packet)
+
+-- what follows for ours
+pub record MarkedStill : Type 0 where
+  pub bytes : (packet : List ℕ) → Bytes packet → Bytes (markedPacket packet)
   -- marking twice is marking once, in the answer and in the packet
   pub twice : (packet : List ℕ) → Bytes packet → (markReply (markedPacket packet) ≡ markReply packet) × (markedPacket (markedPacket packet) ≡ markedPacket packet)
   -- a marked packet passes the check as it did before, and its option and its view are what they were
   pub passes : (packet : List ℕ) → Bytes packet → headerChecked (length packet) (markedPacket packet) ≡ headerChecked (length packet) packet
   pub located-still : (packet : List ℕ) → Bytes packet → located (length packet) (markedPacket packet) ≡ located (length packet) packet
   pub viewed-still : (packet : List ℕ) → Bytes packet → view (length packet) (markedPacket packet) ≡ view (length packet) packet
+
+-- ---- what stands behind the header
+
+-- two packets of one length that differ at most behind the header: the first 20 bytes are the same, and so is all of the header
+pub record SameHeader (p q : List ℕ) : Type 0 where
+  pub long : length q ≡ length p
+  pub first : take 20 q ≡ take 20 p
+  pub header : headerOf q ≡ headerOf p
+
+-- a packet has behind the header what it had
+abbrev pub KeptBehind : List ℕ → List ℕ → Type 0
+KeptBehind packet new = (i : ℕ) → headerLength packet ≤ i → getD new i 0 ≡ getD packet i 0
+
+-- what a call leaves of two such packets, `new` of `p` and `other` of `q`
+pub record LeftAlike (p q new other : List ℕ) : Type 0 where
+  pub same-header : SameHeader new other
+  pub kept : KeptBehind p new
+  pub other-kept : KeptBehind q other
+
+-- what a call that forwards replies to two such packets
+abbrev pub Alike : List ℕ → List ℕ → Reply (List ℕ) → Reply (List ℕ) → Type 0
+Alike p q x y = (done y ≡ done x) × LeftAlike p q (leaves p x) (leaves q y)
+
+-- no byte behind the header is read or changed
+pub record BehindHeader : Type 0 where
+  pub checks : (reach : ℕ) (p q : List ℕ) → SameHeader p q → headerChecked reach q ≡ headerChecked reach p
+  pub locates : (reach : ℕ) (p q : List ℕ) → SameHeader p q → located reach q ≡ located reach p
+  pub views : (reach : ℕ) (p q : List ℕ) → SameHeader p q → view reach q ≡ view reach p
+  pub forwards : (reach : ℕ) (p q : List ℕ) → SameHeader p q → Alike p q (forwarded reach p) (forwarded reach q)
+  pub marks : (p q : List ℕ) → SameHeader p q → (markReply q ≡ markReply p) × LeftAlike p q (markedPacket p) (markedPacket q)

@@ -10,7 +10,7 @@ use Rattle.refusals.specs.Reply.{answer, refuse}
 use Rattle.wire_rules.specs.Rates.Steps.{topCode}
 use Rattle.wire_rules.specs.declared.Request.{Request}
 use Rattle.wire_rules.specs.declared.Response.{Response}
-use Rattle.wire_rules.specs.Options.Wire.{optionLength, nonceLimit, optionBytes, highHalf, reservedIn}
+use Rattle.wire_rules.specs.Options.Wire.{optionLength, nonceLimit, topTtl, optionBytes, highHalf, reservedIn}
 use Rattle.wire_rules.specs.Options.Requests.{requestKind, requestRead, requestWritten, requestRewritten}
 use Rattle.wire_rules.specs.Options.Responses.{ttlDiff, responseKind, responseRead, responseWritten}
 use Rattle.wire_rules.specs.Options.Nonces.{fieldOf, fieldsUpTo, lowered, loweredReply, agree, agreeReply}
@@ -53,6 +53,8 @@ pub record ResponseRoundTrip : Type 0 where
 
 -- "(IP TTL - QS TTL) modulo 256", of two bytes: the one byte that gives IP TTL again when QS TTL is added to it
 pub record TtlDiffs : Type 0 where
+  -- "starting IP TTL 1 to 255": the greatest byte
+  pub top : topTtl ≡ 255
   pub byte : (ttl qs : ℕ) → ttlDiff ttl qs < 256
   pub rule : (ttl qs : ℕ) → ttl < 256 → qs < 256 → (ttlDiff ttl qs + qs) % 256 ≡ ttl
   pub only : (ttl qs diff : ℕ) → ttl < 256 → qs < 256 → diff < 256 → (diff + qs) % 256 ≡ ttl → diff ≡ ttlDiff ttl qs
@@ -114,3 +116,39 @@ pub record Refusing : Type 0 where
   pub lower-seven : (old new nonce fresh : ℕ) → ((old ≤ 15) × (new ≤ 15) × (nonce < 2 ^ 30) × (fresh < 2 ^ 30) → ⊥) → loweredReply old new nonce fresh ≡ refuse 7
   pub compare : (code a b : ℕ) → code ≤ 15 → a < 2 ^ 30 → b < 2 ^ 30 → agreeReply code a b ≡ answer (agree code a b)
   pub compare-seven : (code a b : ℕ) → ((code ≤ 15) × (a < 2 ^ 30) × (b < 2 ^ 30) → ⊥) → agreeReply code a b ≡ refuse 7
+
+-- ---- byte by byte, in the paper's numbers
+
+-- "a 32-bit big-endian word": the last four bytes of an option
+abbrev pub bigEndian : List ℕ → ℕ
+bigEndian option = getD option 4 0 * 16777216 + getD option 5 0 * 65536 + getD option 6 0 * 256 + getD option 7 0
+
+-- eight bytes: the kind, 8, the rate code under four bits of 0, the TTL's byte, and the word; they are bytes where the TTL is one
+pub record Bytewise (kind rate ttl word : ℕ) (option : List ℕ) : Type 0 where
+  pub long : length option ≡ 8
+  pub kind-is : getD option 0 0 ≡ kind
+  pub length-is : getD option 1 0 ≡ 8
+  pub rate-is : getD option 2 0 ≡ rate
+  pub ttl-is : getD option 3 0 ≡ ttl
+  pub word-is : bigEndian option ≡ word
+  pub bytes : ttl < 256 → Bytes option
+
+-- "25, 8, one byte (high half the function, low half the rate code), QS TTL, then a 32-bit big-endian word: 30 bits of nonce above 2
+-- reserved bits"; "27, 8, one byte (high half reserved, low half the code), TTL Diff, the same kind of word"
+pub record Layout : Type 0 where
+  pub request-read : (option : List ℕ) → length option ≡ 8 → IsRequest option
+      → requestRead option ≡ answer (record { rate = getD option 2 0 % 16; «qs_ttl» = getD option 3 0; nonce = bigEndian option / 4 })
+  pub response-read : (option : List ℕ) → length option ≡ 8 → IsResponse option
+      → responseRead option ≡ answer (record { rate = getD option 2 0 % 16; «ttl_diff» = getD option 3 0; nonce = bigEndian option / 4 })
+  pub request-written : (old new : List ℕ) (rate ttl nonce : ℕ) → requestWritten old rate ttl nonce ≡ answer new → Bytewise 25 rate ttl (nonce * 4) new
+  pub response-written : (old new : List ℕ) (rate diff nonce : ℕ) → responseWritten old rate diff nonce ≡ answer new → Bytewise 27 rate diff (nonce * 4) new
+  -- "left by routers": the two lowest bits of the word stay
+  pub request-rewritten : (old new : List ℕ) (rate ttl nonce : ℕ) → requestRewritten old rate ttl nonce ≡ answer new → Bytewise 25 rate ttl (nonce * 4 + bigEndian old % 4) new
+
+-- "a two-bit field for each lowering, 15 to 14 in the highest bits down to 1 to 0 in the lowest"; "the fields up to code K are the nonce
+-- modulo 4 to the K"
+pub record Fields : Type 0 where
+  pub highest : (nonce : ℕ) → nonce < 2 ^ 30 → fieldOf 15 nonce ≡ nonce / 2 ^ 28
+  pub lowest : (nonce : ℕ) → fieldOf 1 nonce ≡ nonce % 4
+  pub next : (code nonce : ℕ) → 1 ≤ code → fieldOf (code + 1) nonce ≡ fieldOf code (nonce / 4)
+  pub up-to : (code nonce : ℕ) → fieldsUpTo code nonce ≡ nonce % 4 ^ code

@@ -1,5 +1,5 @@
 -- What is claimed of rates, roundings and the window, beyond the contracts. Assumes nothing.
-use Prim.Native.Nat.{ℕ, _+_, _*_, _≤_, _<_, min}
+use Prim.Native.Nat.{ℕ, _+_, _*_, _^_, _≤_, _<_, min}
 use mathlib.Core.Path.{_≡_}
 use Rattle.refusals.specs.Reply.{answer, refuse}
 use Rattle.wire_rules.specs.Rates.Steps.{topCode, rateOf, rateReply, greatestUpTo, roundedDown, roundedUp, roundedUpReply, Greatest, Least}
@@ -47,6 +47,9 @@ pub record WindowGiven (code rtt mss headers : ℕ) : Type 0 where
 
 -- 7 for "a number .. outside its range", and for no other
 pub record Ranges : Type 0 where
+  -- "Code 0 means nothing. Code N from 1 to 15 means 40,000 times 2 to the N bits a second."
+  pub no-rate : rateOf 0 ≡ 0
+  pub steps : (code : ℕ) → 1 ≤ code → rateOf code ≡ 40000 * 2 ^ code
   pub rate : (code : ℕ) → code ≤ 15 → rateReply code ≡ answer (rateOf code)
   pub rate-seven : (code : ℕ) → 15 < code → rateReply code ≡ refuse 7
   pub up : (wish : ℕ) → 1 ≤ wish → roundedUpReply wish ≡ answer (roundedUp wish)

@@ -11,7 +11,7 @@ use Rattle.refusals.specs.Reply.{Reply, answer, refuse}
 use Rattle.wire_rules.specs.Options.Wire.{kindIn, lengthIn}
 use Rattle.wire_rules.specs.declared.Place.{Place}
 use Rattle.wire_rules.specs.declared.Place.the-variants.{Nowhere, At}
-use Rattle.wire_rules.specs.Walk.Walks.{look, goOn}
+use Rattle.wire_rules.specs.Walk.Walks.{look, goOn, walk}
 
 -- ---- what areas are made of
 
@@ -87,6 +87,13 @@ pub record Walking (walk : List ℕ → Reply Place) : Type 0 where
       → (offset + 8 ≤ length area) × (getD area offset 0 ≡ 25) × (getD area (suc offset) 0 ≡ 8)
   -- place and faultlessness stay when the six bytes after the length are overwritten
   pub steady : (area six : List ℕ) (offset : ℕ) → length six ≡ 6 → walk area ≡ answer (At offset) → walk (sets area (offset + 2) six) ≡ answer (At offset)
+
+-- ours has them, and whatever walk has them is ours, on every area
+abbrev pub WalkingTheorem : Type 0
+WalkingTheorem = Walking walk
+
+abbrev pub WalkingOnly : Type 0
+WalkingOnly = (other : List ℕ → Reply Place) → Walking other → (area : List ℕ) → other area ≡ walk area
 
 -- two walks that fall short of them: one that answers none always, and one that looks at offset 0 only
 abbrev pub noneAlways : List ℕ → Reply Place
