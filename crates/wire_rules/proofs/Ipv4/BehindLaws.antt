@@ -9,7 +9,7 @@ use native.Mathlib.Nat.{le-refl}
 use native.Mathlib.Omega.{arith}
 use borrow.Author.Tests.{le-leb, lt-leb}
 use lib.Dec.{leb, eqb}
-use lib.ListN.{length, getD, set, take, drop, length-set, length-drop}
+use lib.ListN.{length, getD, set, take, drop, length-set, length-take, length-drop}
 use lib.Seq.{take-take, length-take-le, getD-take, getD-set-other, take-set-lt, sets, length-sets}
 use Rattle.common.specs.Choice.{pick}
 use Rattle.common.proofs.Choice.{by-test}
@@ -33,7 +33,7 @@ use Rattle.wire_rules.proofs.Ipv4.ChecksumLaws.{length-sealed}
 use Rattle.wire_rules.proofs.Ipv4.HeaderLaws.{form, least, Good, good}
 use Rattle.wire_rules.proofs.Ipv4.SealLaws.{same-form, sealed-form, sealed-others, no-checksum, sealed-alone}
 use Rattle.wire_rules.proofs.Ipv4.OptionLaws.{found, inside-at, viewed-by}
-use Rattle.wire_rules.proofs.Ipv4.ReadLaws.{set-form, ttl-form}
+use Rattle.wire_rules.proofs.Ipv4.ReadLaws.{checked-of, set-form}
 use Rattle.wire_rules.proofs.Ipv4.PutLaws.{put-at, at-place}
 
 -- ---- what is read
@@ -42,32 +42,70 @@ use Rattle.wire_rules.proofs.Ipv4.PutLaws.{put-at, at-place}
 option-header : (place h : ℕ) (l : List ℕ) → place + optionLength ≤ h → optionAt place (take h l) ≡ optionAt place l
 option-header place h l room = ap (take optionLength) (drop-take place h l) ∙ take-take optionLength (h - place) (drop place l) (omega arith)
 
-module _ (p q : List ℕ) (s : SameHeader p q) where
-  at-first : (i : ℕ) → i < leastHeader → getD q i 0 ≡ getD p i 0
-  at-first i h = sym (getD-take leastHeader q i 0 h) ∙ ap (λ (l : List ℕ). getD l i 0) (s .first) ∙ getD-take leastHeader p i 0 h
+-- the first twenty bytes of a packet whose header holds them stand in any other packet with that header
+first-bytes : (p q : List ℕ) → headerOf q ≡ headerOf p → leastHeader ≤ headerLength p → headerLength p ≤ length p → (i : ℕ) → i < leastHeader → getD q i 0 ≡ getD p i 0
+first-bytes p q e size inside i h =
+    let long : length (take (headerLength q) q) ≡ headerLength p = ap length e ∙ length-take-le (headerLength p) p inside in
+    sym (getD-take (headerLength q) q i 0 (omega (arith, length-take (headerLength q) q)))
+    ∙ ap (λ (l : List ℕ). getD l i 0) e
+    ∙ getD-take (headerLength p) p i 0 (omega arith)
 
-  pub formed-alike : (reach : ℕ) → (wellFormed reach q ≡ wellFormed reach p) × (headerLength q ≡ headerLength p)
-  formed-alike reach = same-form reach p q (s .long) (at-first 0 (omega arith)) (at-first 2 (omega arith)) (at-first 3 (omega arith))
+formed-too : (reach : ℕ) (p q : List ℕ) → SameHeader p q → wellFormed reach p ≡ true → (wellFormed reach q ≡ wellFormed reach p) × (headerLength q ≡ headerLength p)
+formed-too reach p q s w =
+    let f = form reach p w in
+    let at = first-bytes p q (s .header) (least reach p f) (f .inside) in
+    same-form reach p q (s .long) (at 0 (omega arith)) (at 2 (omega arith)) (at 3 (omega arith))
+
+turned : (p q : List ℕ) → SameHeader p q → SameHeader q p
+turned p q s = record { long = sym (s .long); header = sym (s .header) }
+
+module _ (p q : List ℕ) (s : SameHeader p q) where
+  formed-alike : (reach : ℕ) → wellFormed reach q ≡ wellFormed reach p
+  formed-alike reach = by-own (wellFormed reach p) refl
+    where
+      by-other : wellFormed reach p ≡ false → (t : Bool) → wellFormed reach q ≡ t → wellFormed reach q ≡ false
+      by-other e true f = sym (formed-too reach q p (turned p q s) f .0) ∙ e
+      by-other e false f = f
+
+      by-own : (t : Bool) → wellFormed reach p ≡ t → wellFormed reach q ≡ wellFormed reach p
+      by-own true e = formed-too reach p q s e .0
+      by-own false e = by-other e (wellFormed reach q) refl ∙ sym e
+
+  -- of a well-formed packet
+  module _ (reach : ℕ) (w : wellFormed reach p ≡ true) where
+    pub at-first : (i : ℕ) → i < leastHeader → getD q i 0 ≡ getD p i 0
+    at-first = let f = form reach p w in first-bytes p q (s .header) (least reach p f) (f .inside)
+
+    pub size-alike : headerLength q ≡ headerLength p
+    size-alike = formed-too reach p q s w .1
+
+    checks-well : headerChecked reach q ≡ headerChecked reach p
+    checks-well =
+        checked-of reach q (formed-alike reach ∙ w)
+        ∙ ap₂ (λ (h : List ℕ) (n : ℕ). pick {A = Reply ℕ} (eqb (onesSum h) allOnes) (answer n) (refuse 2)) (s .header) size-alike
+        ∙ sym (checked-of reach p w)
+
+    -- the request of an option that lies in the header
+    requests : (place : ℕ) → place + optionLength ≤ headerLength p → requestAt (At place) q ≡ requestAt (At place) p
+    requests place room =
+        ap (λ (l : List ℕ). asRequest (requestRead l))
+        (sym (option-header place (headerLength q) q (rw size-alike room)) ∙ ap (optionAt place) (s .header) ∙ option-header place (headerLength p) p room)
 
   pub checks : (reach : ℕ) → headerChecked reach q ≡ headerChecked reach p
-  checks reach =
-      ap₂ (λ (w : Bool) (h : List ℕ). pick w (pick {A = Reply ℕ} (eqb (onesSum h) allOnes) (answer (headerLength q)) (refuse 2)) (refuse 1)) (formed-alike reach .0) (s .header)
-      ∙ ap (λ (n : ℕ). pick (wellFormed reach p) (pick {A = Reply ℕ} (eqb (onesSum (headerOf p)) allOnes) (answer n) (refuse 2)) (refuse 1)) (formed-alike reach .1)
+  checks reach = by-form (wellFormed reach p) refl
+    where
+      by-form : (t : Bool) → wellFormed reach p ≡ t → headerChecked reach q ≡ headerChecked reach p
+      by-form true e = checks-well reach e
+      by-form false e = malformed q (formed-alike reach ∙ e) ∙ sym (malformed p e)
+        where
+          malformed : (l : List ℕ) → wellFormed reach l ≡ false → headerChecked reach l ≡ refuse 1
+          malformed l e = simp e
 
   walks : walked q ≡ walked p
   walks = ap (λ (h : List ℕ). andThen (walk (drop optionsPlace h)) (λ place. answer (inPacket place))) (s .header)
 
   pub locates : (reach : ℕ) → located reach q ≡ located reach p
   locates reach = ap₂ (λ (c : Reply ℕ) (w : Reply Place). andThen c (λ header. w)) (checks reach) walks
-
-  pub ttls : ipTtl q ≡ ipTtl p
-  ttls = at-first ttlPlace (omega arith)
-
-  -- the request of an option that lies in the header
-  requests : (place : ℕ) → place + optionLength ≤ headerLength p → requestAt (At place) q ≡ requestAt (At place) p
-  requests place room =
-      ap (λ (l : List ℕ). asRequest (requestRead l))
-      (sym (option-header place (headerLength q) q (rw (formed-alike 0 .1) room)) ∙ ap (optionAt place) (s .header) ∙ option-header place (headerLength p) p room)
 
   pub views : (reach : ℕ) → view reach q ≡ view reach p
   views reach = by-place (located reach p) refl
@@ -77,32 +115,22 @@ module _ (p q : List ℕ) (s : SameHeader p q) where
 
       shown : (place : Place) → located reach p ≡ answer place → requestAt place q ≡ requestAt place p
       shown Nowhere e = refl
-      shown (At place) e = requests place (at-place reach place p e .room)
+      shown (At place) e = requests reach (found reach p (At place) e .is-good .well) place (at-place reach place p e .room)
 
       by-place : (r : Reply Place) → located reach p ≡ r → view reach q ≡ view reach p
       by-place (refuse n) e = ap (seen q) (locates reach ∙ e) ∙ sym (ap (seen p) e)
       by-place (answer place) e =
           viewed-by reach q place (locates reach ∙ e)
-          ∙ ap₂ (λ (t : ℕ) (x : Option Request). answer (record { ttl = t; request = x })) ttls (shown place e)
+          ∙ ap₂ (λ (t : ℕ) (x : Option Request). answer (record { ttl = t; request = x })) (at-first reach (found reach p place e .is-good .well) ttlPlace (omega arith)) (shown place e)
           ∙ sym (viewed-by reach p place e)
 
 -- ---- what is sealed
 
--- a packet's first bytes are its header's
-first-of : (l : List ℕ) → leastHeader ≤ headerLength l → take leastHeader (headerOf l) ≡ take leastHeader l
-first-of l h = take-take leastHeader (headerLength l) l h
-
 sealed-same : (reach : ℕ) (l m : List ℕ) → HeaderForm reach l → HeaderForm reach m → length m ≡ length l → headerOf m ≡ headerOf l → SameHeader (sealed l) (sealed m)
-sealed-same reach l m f g long e =
-    let header : headerOf (sealed m) ≡ headerOf (sealed l) = sym (sealed-alone reach m g) ∙ ap sealed e ∙ sealed-alone reach l f in
-    record {
-      long = length-sealed m ∙ long ∙ sym (length-sealed l);
-      first =
-          sym (first-of (sealed m) (rw (sealed-form reach m .1) (least reach m g)))
-          ∙ ap (take leastHeader) header
-          ∙ first-of (sealed l) (rw (sealed-form reach l .1) (least reach l f));
-      header = header;
-    }
+sealed-same reach l m f g long e = record {
+  long = length-sealed m ∙ long ∙ sym (length-sealed l);
+  header = sym (sealed-alone reach m g) ∙ ap sealed e ∙ sealed-alone reach l f;
+}
 
 sealed-kept : (p l : List ℕ) → leastHeader ≤ headerLength p → KeptBehind p l → KeptBehind p (sealed l)
 sealed-kept p l h k i low = sealed-others l i (no-checksum i (inr (omega arith))) ∙ k i low
@@ -124,11 +152,10 @@ module _ (reach : ℕ) (p q : List ℕ) (s : SameHeader p q) (w : wellFormed rea
 
   pub set-alike : LeftAlike p q (sealed (set p i a)) (sealed (set q i a))
   set-alike =
-      let other = formed-alike p q s reach in
-      let wide : leastHeader ≤ headerLength q = rw (other .1) size in
+      let wide : leastHeader ≤ headerLength q = rw (size-alike p q s reach w) size in
       record {
         same-header =
-            sealed-same reach (set p i a) (set q i a) (formed-set p w) (formed-set q (other .0 ∙ w))
+            sealed-same reach (set p i a) (set q i a) (formed-set p w) (formed-set q (formed-alike p q s reach ∙ w))
             (length-set q i a ∙ s .long ∙ sym (length-set p i a))
             (header-set q wide ∙ ap (λ (h : List ℕ). set h i a) (s .header) ∙ sym (header-set p size));
         kept = kept-set p size;
@@ -265,7 +292,7 @@ module _ (p q : List ℕ) (s : SameHeader p q) where
   passes-on : (reach : ℕ) → wellFormed reach p ≡ true → Alike p q (passedOn reach p) (passedOn reach q)
   passes-on reach w =
       subst (λ (y : Reply (List ℕ)). Alike p q (passedOn reach p) y)
-      (sym (ap₂ (λ (f : Bool) (t : ℕ). pick f (pick (leb t 1) (refuse 6) (answer (sealed (set q ttlPlace (t - 1))))) (refuse 1)) (formed-alike p q s reach .0) (ttls p q s)))
+      (sym (ap₂ (λ (f : Bool) (t : ℕ). pick f (pick (leb t 1) (refuse 6) (answer (sealed (set q ttlPlace (t - 1))))) (refuse 1)) (formed-alike p q s reach) (at-first p q s reach w ttlPlace (omega arith))))
       (alike-chosen (wellFormed reach p) _ _ _ _
       (λ _. alike-chosen (leb (ipTtl p) 1) _ _ _ _ (λ _. alike-refused 6) (λ _.
       (refl, set-alike reach p q s w ttlPlace (ipTtl p - 1) (omega arith) (λ e. absurd (omega arith)) (λ e. absurd (omega arith)) (λ e. absurd (omega arith)))))
@@ -284,18 +311,24 @@ module _ (p q : List ℕ) (s : SameHeader p q) where
           by-answer (answer h) e = passes-on reach (good reach h p (sym e) .0 .well)
 
   -- marking, whose reach is the packet's own length
+  abbrev decided : List ℕ → Reply ℕ → Reply Mark
+  decided l checked = andThen checked (λ header. answer (pick (ectSet (getD l ecnPlace 0)) marked dropped))
+
   mark-says : markReply q ≡ markReply p
-  mark-says =
-      ap₂ (λ (c : Reply ℕ) (b : ℕ). andThen c (λ header. answer (pick (ectSet b) marked dropped)))
-      (ap (λ (n : ℕ). headerChecked n q) (s .long) ∙ checks p q s (length p)) (at-first p q s ecnPlace (omega arith))
+  mark-says = ap (decided q) (ap (λ (n : ℕ). headerChecked n q) (s .long) ∙ checks p q s (length p)) ∙ by-check (headerChecked (length p) p) refl
+    where
+      by-check : (r : Reply ℕ) → headerChecked (length p) p ≡ r → decided q (headerChecked (length p) p) ≡ decided p (headerChecked (length p) p)
+      by-check (refuse n) e = ap (decided q) e ∙ sym (ap (decided p) e)
+      by-check (answer h) e =
+          ap (λ (b : ℕ). andThen (headerChecked (length p) p) (λ header. answer (pick (ectSet b) marked dropped)))
+          (at-first p q s (length p) (good (length p) h p (sym e) .0 .well) ecnPlace (omega arith))
 
   mark-leaves : (r : Reply Mark) → markReply p ≡ r → LeftAlike p q (afterMark p r) (afterMark q r)
   mark-leaves (answer marked) e =
-      rw (at-first p q s ecnPlace (omega arith))
-      (set-alike (length p) p q s (well e) ecnPlace (withCe (getD p ecnPlace 0)) (omega arith) (λ x. absurd (omega arith)) (λ x. absurd (omega arith)) (λ x. absurd (omega arith)))
-    where
-      well : markReply p ≡ answer marked → wellFormed (length p) p ≡ true
-      well e = let c = through (headerChecked (length p) p) _ marked e in good (length p) (c .0) p (sym (c .1)) .0 .well
+      let c = through (headerChecked (length p) p) _ marked e in
+      let w = good (length p) (c .0) p (sym (c .1)) .0 .well in
+      rw (at-first p q s (length p) w ecnPlace (omega arith))
+      (set-alike (length p) p q s w ecnPlace (withCe (getD p ecnPlace 0)) (omega arith) (λ x. absurd (omega arith)) (λ x. absurd (omega arith)) (λ x. absurd (omega arith)))
   mark-leaves (answer dropped) e = same-left p q s
   mark-leaves (refuse n) e = same-left p q s
 

@@ -8,7 +8,7 @@ use mathlib.Core.Logic.{_⊎_}
 use mathlib.Core.Option.{Option, none, some}
 use mathlib.Core.Path.{_≡_}
 use lib.Dec.{leb}
-use lib.ListN.{length, getD, take}
+use lib.ListN.{length, getD}
 use Rattle.common.specs.Lists.{Bytes}
 use Rattle.refusals.specs.Reply.{Reply, answer, refuse, leaves, done}
 use Rattle.wire_rules.specs.Rates.Steps.{topCode}
@@ -245,10 +245,9 @@ pub record MarkedStill : Type 0 where
 
 -- ---- what stands behind the header
 
--- two packets of one length that differ at most behind the header: the first 20 bytes are the same, and so is all of the header
+-- two packets of one length that differ at most behind the header
 pub record SameHeader (p q : List ℕ) : Type 0 where
   pub long : length q ≡ length p
-  pub first : take 20 q ≡ take 20 p
   pub header : headerOf q ≡ headerOf p
 
 -- a packet has behind the header what it had
