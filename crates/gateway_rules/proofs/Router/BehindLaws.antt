@@ -2,20 +2,18 @@
 use Prim.Native.Nat.{ℕ}
 use mathlib.Core.Bool.{Bool, true, false, _&&_}
 use mathlib.Core.List.{List}
-use mathlib.Core.Path.{_≡_, refl, sym, ap, subst, _∙_}
+use mathlib.Core.Path.{_≡_, refl, sym, subst}
 use lib.Dec.{leb}
 use lib.ListN.{length}
 use Rattle.common.specs.Choice.{pick}
 use Rattle.refusals.specs.Reply.{Reply, answer, refuse, leaves, done, andThen}
-use Rattle.wire_rules.specs.declared.Place.{Place}
-use Rattle.wire_rules.specs.Ipv4.Packets.{located}
 use Rattle.wire_rules.specs.Ipv4.Views.{View, view, put}
 use Rattle.wire_rules.specs.Ipv4.Claims.{SameHeader, LeftAlike, Alike}
 use Rattle.wire_rules.proofs.Ipv4.OptionLaws.{view-place}
 use Rattle.wire_rules.proofs.Ipv4.BehindLaws.{alike-refused, alike-chosen, put-alike}
 use Rattle.wire_rules.proofs.Ipv4.Claims as packets
 use Rattle.gateway_rules.specs.Ledgers.Calls.{Link, linkInRange, Granted}
-use Rattle.gateway_rules.specs.Router.Routers.{routerInRange, unexpired, routedView, routed, silentlyRouted, wishOf, ceilingFrom, Passage, passage, routedByLedger, ledgerRouter}
+use Rattle.gateway_rules.specs.Router.Routers.{routerInRange, unexpired, routedView, routed, wishOf, ceilingFrom, Passage, passage, routedByLedger, ledgerRouter}
 use Rattle.gateway_rules.specs.Router.Claims.{AlikePassages, BehindHeader}
 
 module _ (p q : List ℕ) (s : SameHeader p q) where

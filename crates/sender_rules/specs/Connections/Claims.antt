@@ -2,9 +2,9 @@
 -- when it would be out of range, and that a record with one part changed keeps the others. Assumes nothing.
 use Prim.Native.Nat.{ℕ, _≤_, _<_}
 use mathlib.Core.Bool.{true, false}
-use mathlib.Core.List.{List, []}
+use mathlib.Core.List.{List, [], _∷_}
 use mathlib.Core.Path.{_≡_}
-use lib.ListN.{length, getD}
+use lib.ListN.{getD}
 use Rattle.refusals.specs.Reply.{answer, refuse}
 use Rattle.sender_rules.specs.declared.State.{State}
 use Rattle.sender_rules.specs.declared.State.the-variants.{Idle, Asked, Quick}
@@ -74,7 +74,8 @@ pub record IsFresh (window ssthresh : ℕ) (c : Connection) : Type 0 where
   pub no-request : c .«last_request» ≡ Moments.Absent
   pub no-mark : c .mark ≡ Marks.Absent
   pub no-sample : samplesOf c ≡ []
-  pub places : length (c .samples) ≡ 5
+  -- five places, and zeros in each
+  pub places : c .samples ≡ noSample ∷ noSample ∷ noSample ∷ noSample ∷ noSample ∷ []
   pub no-period : c .period ≡ Moments.Absent
 
 pub record Fresh : Type 0 where

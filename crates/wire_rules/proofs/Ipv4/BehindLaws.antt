@@ -1,24 +1,22 @@
 -- Two packets that differ behind the header alone are read alike, and alike in the header is what is left of them. Assumes nothing.
-use Prim.Native.Nat.{ℕ, _+_, _-_, _/_, _%_, _≤_, _<_}
+use Prim.Native.Nat.{ℕ, _+_, _-_, _≤_, _<_}
 use mathlib.Core.Bool.{Bool, true, false}
 use mathlib.Core.List.{List}
-use mathlib.Core.Logic.{_⊎_, inl, inr}
+use mathlib.Core.Logic.{inl, inr}
 use mathlib.Core.Option.{Option, none, some}
 use mathlib.Core.Path.{_≡_, refl, sym, ap, ap₂, subst, _∙_}
-use native.Mathlib.Nat.{le-refl}
 use native.Mathlib.Omega.{arith}
-use borrow.Author.Tests.{le-leb, lt-leb}
 use lib.Dec.{leb, eqb}
 use lib.ListN.{length, getD, set, take, drop, length-set, length-take, length-drop}
 use lib.Seq.{take-take, length-take-le, getD-take, getD-set-other, take-set-lt, sets, length-sets}
 use Rattle.common.specs.Choice.{pick}
 use Rattle.common.proofs.Choice.{by-test}
 use Rattle.common.proofs.Lists.{drop-take, take-sets, getD-sets-other}
-use Rattle.refusals.specs.Reply.{Reply, answer, refuse, leaves, done, andThen}
+use Rattle.refusals.specs.Reply.{Reply, answer, refuse, leaves, andThen}
 use Rattle.refusals.proofs.ReplyLaws.{through}
 use Rattle.wire_rules.specs.declared.Request.{Request}
-use Rattle.wire_rules.specs.Options.Wire.{optionLength, optionBytes, fieldsFit, reservedIn}
-use Rattle.wire_rules.specs.Options.Requests.{requestKind, isRequest, requestRead, requestRewritten}
+use Rattle.wire_rules.specs.Options.Wire.{optionLength, optionBytes, fieldsFit}
+use Rattle.wire_rules.specs.Options.Requests.{isRequest, requestRead, requestRewritten}
 use Rattle.wire_rules.specs.declared.Place.{Place}
 use Rattle.wire_rules.specs.declared.Place.the-variants.{Nowhere, At}
 use Rattle.wire_rules.specs.Walk.Walks.{walk}
@@ -28,11 +26,11 @@ use Rattle.wire_rules.specs.Ipv4.Checks.{wellFormed, headerChecked}
 use Rattle.wire_rules.specs.Ipv4.Packets.{inPacket, walked, located, passedOn, forwarded}
 use Rattle.wire_rules.specs.Ipv4.Marks.{Mark, marked, dropped, ectSet, withCe, markReply, afterMark, markedPacket}
 use Rattle.wire_rules.specs.Ipv4.Views.{View, optionAt, asRequest, requestAt, view, putRequest, put}
-use Rattle.wire_rules.specs.Ipv4.Claims.{HeaderForm, Inside, SameHeader, KeptBehind, LeftAlike, Alike, BehindHeader}
+use Rattle.wire_rules.specs.Ipv4.Claims.{HeaderForm, SameHeader, KeptBehind, LeftAlike, Alike, BehindHeader}
 use Rattle.wire_rules.proofs.Ipv4.ChecksumLaws.{length-sealed}
 use Rattle.wire_rules.proofs.Ipv4.HeaderLaws.{form, least, Good, good}
-use Rattle.wire_rules.proofs.Ipv4.SealLaws.{same-form, sealed-form, sealed-others, no-checksum, sealed-alone}
-use Rattle.wire_rules.proofs.Ipv4.OptionLaws.{found, inside-at, viewed-by}
+use Rattle.wire_rules.proofs.Ipv4.SealLaws.{same-form, sealed-others, no-checksum, sealed-alone}
+use Rattle.wire_rules.proofs.Ipv4.OptionLaws.{found, viewed-by}
 use Rattle.wire_rules.proofs.Ipv4.ReadLaws.{checked-of, set-form}
 use Rattle.wire_rules.proofs.Ipv4.PutLaws.{put-at, at-place}
 

@@ -15,7 +15,7 @@ use Rattle.wire_rules.specs.Options.Requests.{requestKind}
 use Rattle.wire_rules.specs.declared.Place.{Place}
 use Rattle.wire_rules.specs.declared.Place.the-variants.{Nowhere, At}
 use Rattle.wire_rules.specs.Walk.Walks.{Next, fault, look, goOn, walkOn, walk}
-use Rattle.wire_rules.specs.Walk.Claims.{Skipped, none, filler, last, Clear, quickStartOption, Holds, Passed, no-option, one-option, Faulty, bad-length, other-length, second, Walking, WalkingTheorem, WalkingOnly, ShutOut}
+use Rattle.wire_rules.specs.Walk.Claims.{Skipped, none, filler, last, Clear, quickStartOption, Holds, Passed, no-option, one-option, Faulty, bad-length, other-length, second, WalkingTheorem, WalkingOnly, ShutOut}
 use Rattle.wire_rules.proofs.Walk.WalkLaws.{reads-bad, reads-wrong, reads-second, looks, step, fits-low, fits-high, no-fit, in-fit, fit-fails}
 use Rattle.wire_rules.proofs.Walk.AreaLaws.{skip, clear-yields, found, at-once, behind, Yields, clear, holds, breaks, yields}
 
