@@ -41,9 +41,10 @@ use Rattle.path_rules.specs.Path.Claims.{Demanded, InRanges, Starts, Ari
 use Rattle.path_rules.proofs.Path.PathLaws.{given, sent}
 use Rattle.path_rules.proofs.Path.RunClaims.{either-ranges, running}
 use Rattle.path_rules.proofs.Path.Claims.{pathLaw}
+use Rattle.path_rules.proofs.Path.BehindLaws.{call-alike}
 use Rattle.path_rules.specs.Path.OwnSender.{window, ssthresh, ownTransport}
 use Rattle.path_rules.specs.declared.Hop.{Hop}
-use Rattle.path_rules.specs.Rows.Rows.{routersOf, hopsCall}
+use Rattle.path_rules.specs.Rows.Rows.{routersOf, hopsRow, hopsCall}
 use Rattle.path_rules.specs.Rows.Results.{summaryLent, openFor, verdictResult}
 use Rattle.path_rules.specs.Rows.Claims.{Lent, Numbered, Refusable, RefusableOr11, CanBe, ForC}
 use Rattle.path_rules.proofs.Rows.RowClaims.{routers-long, IsRow, either-row, agreeing, hopCalls}
@@ -239,6 +240,7 @@ forC = record {
       by-row Refusable (λ n h. h) (openFor code diff nonce) (not-waiting (record { code = code; «ttl_diff» = diff; nonce = nonce })) packet hops ceiling t bytes (either-row 64 hops);
   apart = apart;
   law = said-for-c;
+  header-only = λ c p q hops ceiling t s. call-alike (hopsRow 64 hops) c p q ceiling t s;
   own-state = λ code diff nonce. refl;
   own-in = own-in;
   own-only = λ code diff nonce r. r .state-in;

@@ -16,6 +16,7 @@ use Rattle.wire_rules.specs.declared.Response.{Response}
 use Rattle.wire_rules.specs.declared.Place.the-variants.{At}
 use Rattle.wire_rules.specs.Ipv4.Packets.{located}
 use Rattle.wire_rules.specs.Ipv4.Views.{view}
+use Rattle.wire_rules.specs.Ipv4.Claims.{SameHeader, LeftAlike}
 use Rattle.gateway_rules.specs.Router.Claims.{touchingNothing}
 use Rattle.gateway_rules.specs.Router.Traffic.{codeLeft}
 use Rattle.gateway_rules.specs.Router.Routers.{routed, silentlyRouted}
@@ -250,6 +251,16 @@ pub record Leaving : Type 0 where
   pub is-refused : (c : Connection) (packet : List ℕ) (ceiling : ℕ) (t : Transport) (routers : List Router) (response : Response) (n : ℕ) → pathCalls .travel routers packet .said ≡ answer tt
       → pathCalls .receive ceiling (pathCalls .travel routers packet .left) ≡ answer (reported response)
       → senderCalls .takeResponse c (responseAfter blank (answer (reported response))) t .said ≡ refuse n → runBy pathCalls c t ceiling routers packet .verdict ≡ notAccepted n
+
+-- what two calls of a run say and leave, of two packets that differ behind the header alone
+pub record AlikeRuns (p q : List ℕ) (x y : Outcome Verdict Journey) : Type 0 where
+  pub said-is : y .said ≡ x .said
+  pub connection-is : y .left .connection ≡ x .left .connection
+  pub packets : LeftAlike p q (x .left .packet) (y .left .packet)
+
+-- no byte behind the header is read or changed by a run
+abbrev pub BehindHeader : Type 0
+BehindHeader = (c : Connection) (p q row : List ℕ) (ceiling : ℕ) (t : Transport) → SameHeader p q → AlikeRuns p q (runCall 64 c p row ceiling t) (runCall 64 c q row ceiling t)
 
 -- ---- demand 3 of the call, on bytes
 

@@ -9,6 +9,7 @@ use lib.ListN.{length}
 use Rattle.common.specs.Lists.{Bytes}
 use Rattle.refusals.specs.Reply.{Reply, answer, refuse, andThen, Outcome, refusing}
 use Rattle.wire_rules.specs.Options.Responses.{ttlDiff}
+use Rattle.wire_rules.specs.Ipv4.Claims.{SameHeader}
 use Rattle.sender_rules.specs.declared.State.the-variants.{Asked}
 use Rattle.sender_rules.specs.declared.Connection.{Connection}
 use Rattle.sender_rules.specs.Connections.Claims.{InRange}
@@ -22,7 +23,7 @@ use Rattle.path_rules.specs.Hops.Verdicts.{Verdict, lost, unanswered, no
 use Rattle.path_rules.specs.Hops.Claims.{Spells, RoutersInRange, spelled}
 use Rattle.path_rules.specs.Path.Runs.{pathCalls, Journey, journey, runCall}
 use Rattle.path_rules.specs.Path.Demands.{Setting, verdictBy}
-use Rattle.path_rules.specs.Path.Claims.{Demanded, Passable, leastAlong}
+use Rattle.path_rules.specs.Path.Claims.{Demanded, Passable, leastAlong, AlikeRuns}
 use Rattle.path_rules.specs.Path.OwnSender.{ownTransport}
 use Rattle.path_rules.specs.declared.Hop.{Hop}
 use Rattle.path_rules.specs.Rows.Rows.{routersOf, hopsRow, hopsSummary, hopsCall}
@@ -226,6 +227,9 @@ pub record ForC : Type 0 where
   -- of a row in range the run over the record that is made for C says demand 3's verdict: its window, T, MSS and H do not matter
   pub law : (g : Setting) (hops : List Hop) → Lent g hops
       → hopsCall 64 (openFor (g .wish .code) (ttlDiff (g .wish .ttl) (g .wish .qs)) (g .wish .nonce)) (g .packet) hops (g .ceiling) ownTransport .said ≡ answer (verdictBy pathCalls g)
+  -- no byte behind the header is read or changed
+  pub header-only : (c : Connection) (p q : List ℕ) (hops : List Hop) (ceiling : ℕ) (t : Transport) → SameHeader p q
+      → AlikeRuns p q (hopsCall 64 c p hops ceiling t) (hopsCall 64 c q hops ceiling t)
   -- that record waits for the response to the request that is told, and is in range exactly when the request is: "a code asked .. 1 to 15", a nonce below 2^30
   pub own-state : (code diff nonce : ℕ) → openFor code diff nonce .state ≡ Asked (record { code = code; «ttl_diff» = diff; nonce = nonce })
   pub own-in : (code diff nonce : ℕ) → 1 ≤ code → code ≤ 15 → nonce < 1073741824 → InRange (openFor code diff nonce)

@@ -29,7 +29,7 @@ use Rattle.wire_rules.specs.Ipv4.Views.{View, optionAt, asRequest, reque
 use Rattle.wire_rules.specs.Ipv4.Claims.{HeaderForm, SameHeader, KeptBehind, LeftAlike, Alike, BehindHeader}
 use Rattle.wire_rules.proofs.Ipv4.ChecksumLaws.{length-sealed}
 use Rattle.wire_rules.proofs.Ipv4.HeaderLaws.{form, least, Good, good}
-use Rattle.wire_rules.proofs.Ipv4.SealLaws.{same-form, sealed-others, no-checksum, sealed-alone}
+use Rattle.wire_rules.proofs.Ipv4.SealLaws.{same-form, sealed-form, sealed-others, no-checksum, sealed-alone}
 use Rattle.wire_rules.proofs.Ipv4.OptionLaws.{found, viewed-by}
 use Rattle.wire_rules.proofs.Ipv4.ReadLaws.{checked-of, set-form}
 use Rattle.wire_rules.proofs.Ipv4.PutLaws.{put-at, at-place}
@@ -131,7 +131,10 @@ sealed-same reach l m f g long e = record {
 }
 
 sealed-kept : (p l : List ℕ) → leastHeader ≤ headerLength p → KeptBehind p l → KeptBehind p (sealed l)
-sealed-kept p l h k i low = sealed-others l i (no-checksum i (inr (omega arith))) ∙ k i low
+sealed-kept p l h k = record {
+  size = sealed-form 0 l .1 ∙ k .size;
+  bytes = λ i low. sealed-others l i (no-checksum i (inr (omega arith))) ∙ k .bytes i low;
+}
 
 -- ---- a byte among the first twenty stored, and the packet sealed
 
@@ -146,7 +149,11 @@ module _ (reach : ℕ) (p q : List ℕ) (s : SameHeader p q) (w : wellFormed rea
   formed-set l v = form reach (set l i a) (set-form reach l i a no-0 no-2 no-3 .0 ∙ v)
 
   kept-set : (l : List ℕ) → leastHeader ≤ headerLength l → KeptBehind l (sealed (set l i a))
-  kept-set l h = sealed-kept l (set l i a) h (λ j k. getD-set-other l i j a 0 (λ e. absurd (omega arith)))
+  kept-set l h =
+      sealed-kept l (set l i a) h (record {
+        size = set-form reach l i a no-0 no-2 no-3 .1;
+        bytes = λ j k. getD-set-other l i j a 0 (λ e. absurd (omega arith));
+      })
 
   pub set-alike : LeftAlike p q (sealed (set p i a)) (sealed (set q i a))
   set-alike =
@@ -249,12 +256,14 @@ module _ (reach : ℕ) (p : List ℕ) (place : Place) (v : View) (e : located re
       ∙ ap (putRequest place (v .request)) (take-set-lt (headerLength p) p ttlPlace (v .ttl) (omega (arith, good-header .header)))
 
   kept-put : KeptBehind p (put p v)
-  kept-put i h =
-      ap (λ (l : List ℕ). getD l i 0) (put-where reach p place v e)
-      ∙ sealed-kept p stored (good-header .header)
-      (λ j k.
-      stored-behind (headerLength p) aged inside-aged place (v .request) (room-of reach p place e) j k
-      ∙ getD-set-other p ttlPlace j (v .ttl) 0 (λ x. absurd (omega (arith, good-header .header)))) i h
+  kept-put =
+      subst (KeptBehind p) (sym (put-where reach p place v e))
+      (sealed-kept p stored (good-header .header) (record {
+        size = stored-form .1;
+        bytes = λ j k.
+            stored-behind (headerLength p) aged inside-aged place (v .request) (room-of reach p place e) j k
+            ∙ getD-set-other p ttlPlace j (v .ttl) 0 (λ x. absurd (omega (arith, good-header .header)));
+      }))
 
 pub put-alike : (reach : ℕ) (p q : List ℕ) (s : SameHeader p q) (place : Place) (v : View) → located reach p ≡ answer place → LeftAlike p q (put p v) (put q v)
 put-alike reach p q s place v e =
@@ -275,8 +284,11 @@ put-alike reach p q s place v e =
 -- ---- what two such packets get
 
 -- both as they came
-same-left : (p q : List ℕ) → SameHeader p q → LeftAlike p q p q
-same-left p q s = record { same-header = s; kept = λ i h. refl; other-kept = λ i h. refl }
+pub same-left : (p q : List ℕ) → SameHeader p q → LeftAlike p q p q
+same-left p q s = record { same-header = s; kept = as-it-came p; other-kept = as-it-came q }
+  where
+    as-it-came : (l : List ℕ) → KeptBehind l l
+    as-it-came l = record { size = refl; bytes = λ i h. refl }
 
 module _ (p q : List ℕ) (s : SameHeader p q) where
   pub alike-refused : (n : ℕ) → Alike p q (refuse n) (refuse n)

@@ -250,9 +250,10 @@ pub record SameHeader (p q : List ℕ) : Type 0 where
   pub long : length q ≡ length p
   pub header : headerOf q ≡ headerOf p
 
--- a packet has behind the header what it had
-abbrev pub KeptBehind : List ℕ → List ℕ → Type 0
-KeptBehind packet new = (i : ℕ) → headerLength packet ≤ i → getD new i 0 ≡ getD packet i 0
+-- the header is as long as it was, and behind it stands what stood there
+pub record KeptBehind (packet new : List ℕ) : Type 0 where
+  pub size : headerLength new ≡ headerLength packet
+  pub bytes : (i : ℕ) → headerLength packet ≤ i → getD new i 0 ≡ getD packet i 0
 
 -- what a call leaves of two such packets, `new` of `p` and `other` of `q`
 pub record LeftAlike (p q new other : List ℕ) : Type 0 where
