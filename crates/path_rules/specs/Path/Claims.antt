@@ -1,7 +1,7 @@
 -- What is claimed of a path: demand 3, whole. `Demand3` is a predicate over the calls of any path; ours has it, and paths with one wrong
 -- part do not. Besides: which refusal a run gives, what can arise after it has started and what it leaves, and that there is always
 -- something to run. Ranges are the paper's numbers. Assumes nothing.
-use Prim.Native.Nat.{ℕ, _+_, _≤_, _<_, min}
+use Prim.Native.Nat.{ℕ, _≤_, _<_, min}
 use mathlib.Core.List.{List, [], _∷_, _++_, List·Permᴰ}
 use mathlib.Core.Logic.{_⊎_}
 use mathlib.Core.Option.{none, some}
