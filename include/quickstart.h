@@ -122,8 +122,9 @@ uint32_t qs_router(uint8_t *packet, size_t len, uint32_t ceiling, uint32_t fresh
  * approvals of the last `slots` ticks never sum to more than an allowance.
  *
  *   packet, len, ceiling, fresh_nonce   as for qs_router
- *   row, slots    the ledger: 1 to 64 numbers, all 0 at the start. row[t % slots] is the sum, in bits
- *                 a second, of what was approved in tick t. The call keeps it; do not write to it
+ *   row, slots    the ledger: 1 to 64 numbers, all 0 at the start. Of the last `slots` ticks up to
+ *                 *tick, row[t % slots] is the sum, in bits a second, of what was approved in tick t.
+ *                 The call keeps it; do not write to it
  *   tick          the tick of the latest call that asked the ledger and was not refused, kept by the
  *                 call. Set it at the start to the time then
  *   allowance     bits a second, at most 2^40. Keep it the same for as long as the row is in use

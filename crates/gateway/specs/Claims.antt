@@ -49,7 +49,7 @@ abbrev pub among : List ℕ → ℕ → Bool
 among [] n = false
 among (m ∷ rest) n = eqb n m || among rest n
 
--- the numbers that each function can give: 0 for what was done, the refusals that it tests, and 40 or 41
+-- no function gives another number than these: 0 for what was done, the refusals that it tests, and 40 or 41
 pub record Possible : Type 0 where
   pub router : (ceiling fresh : ℕ) (packet : List ℕ) → among (0 ∷ 1 ∷ 2 ∷ 3 ∷ 5 ∷ 6 ∷ 7 ∷ []) (routerResult (done (routed (length packet) ceiling fresh packet))) ≡ true
   pub router-ledger : (ceiling fresh tick : ℕ) (p : Passage) → among (0 ∷ 1 ∷ 2 ∷ 3 ∷ 5 ∷ 6 ∷ 7 ∷ 8 ∷ 9 ∷ []) (routerResult (ledgerRouter ceiling fresh tick p .said)) ≡ true

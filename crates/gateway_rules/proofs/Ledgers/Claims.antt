@@ -141,6 +141,7 @@ accepting = record {
 
 pub saying : Saying
 saying = record {
+  lends = λ row ledger. refl;
   set-up-refused = λ row tick allowance n e. set-up row tick allowance (refuse n) e;
   set-up-done = λ row tick allowance link e. set-up row tick allowance (answer link) e;
   move-refused = λ link tick n e. move link tick (refuse n) e;

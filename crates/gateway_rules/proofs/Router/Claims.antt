@@ -51,6 +51,7 @@ routingOnly = record { one-router = one-router; one-silent = one-silent }
 
 pub withLedger : WithLedger
 withLedger = record {
+  lends = λ packet link. refl;
   only = one-ledger-router;
   as-router = λ reach ceiling fresh tick p new e.
       let k = ledger-by reach ceiling fresh tick p new e in

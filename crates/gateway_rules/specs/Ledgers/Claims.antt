@@ -100,8 +100,10 @@ pub record Accepting : Type 0 where
 
 -- ---- what is said and left
 
--- a refused call says its number and leaves what it was lent; an accepted one says and leaves what it replies
+-- what is lent is row and ledger; a refused call says its number and leaves what it was lent; an accepted one says and leaves what it
+-- replies
 pub record Saying : Type 0 where
+  pub lends : (row : List ℕ) (ledger : Ledger) → lent row ledger ≡ record { row = row; ledger = ledger }
   pub set-up-refused : (row : List ℕ) (tick allowance n : ℕ) → setUpReply row tick allowance ≡ refuse n
       → ledgerCalls .setUp row tick allowance ≡ record { said = refuse n; left = row }
   pub set-up-done : (row : List ℕ) (tick allowance : ℕ) (link : Link) → setUpReply row tick allowance ≡ answer link

@@ -188,6 +188,8 @@ pub record LedgerRouting (router : ℕ → ℕ → ℕ → ℕ → Passage → R
       → AtCeiling reach ceiling fresh (p .packet) (p .link) (router reach ceiling fresh tick p)
 
 pub record WithLedger : Type 0 where
+  -- what is lent to it is packet and link
+  pub lends : (packet : List ℕ) (link : Link) → passage packet link ≡ record { packet = packet; link = link }
   -- the cases of `LedgerRouting` are all there are: they leave one router only
   pub only : (router : ℕ → ℕ → ℕ → ℕ → Passage → Reply Passage) → LedgerRouting router → (reach ceiling fresh tick : ℕ) (p : Passage)
       → router reach ceiling fresh tick p ≡ routedByLedger reach ceiling fresh tick p

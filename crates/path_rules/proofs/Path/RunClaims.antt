@@ -337,6 +337,7 @@ pub leaving : Leaving
 leaving = record {
   asks = λ c w buffer. refl;
   receives = λ ceiling packet. refl;
+  lends = λ packet c. refl;
   takes = λ c response t. refl;
   nobody = λ packet. refl;
   goes-on = λ router rest packet new e. ap (λ (r : Reply (List ℕ)). onward packet r (travelBy hop rest)) e;

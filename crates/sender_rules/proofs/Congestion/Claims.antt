@@ -19,10 +19,13 @@ use Rattle.sender_rules.proofs.Connections.Claims.{ranges}
 use Rattle.sender_rules.proofs.Connections.PartLaws.{period-part}
 use Rattle.sender_rules.specs.Congestion.Phases.{isEarly, sampled, isValidated}
 use Rattle.sender_rules.specs.Congestion.Calls.{echoReply, afterEcho, sampleReply, phaseReply, afterPhase, congestionCalls}
-use Rattle.sender_rules.specs.Congestion.Claims.{Ours, CongestionOnly, StaysInRange, Unchanged, EchoLeaves, PhaseLeaves, SampleLeaves, LeftAlone, Windows, Places}
+use Rattle.sender_rules.specs.Congestion.Claims.{Lending, Ours, CongestionOnly, StaysInRange, Unchanged, EchoLeaves, PhaseLeaves, SampleLeaves, LeftAlone, Windows, Places}
 use Rattle.sender_rules.proofs.Congestion.EchoClaims as echo
 use Rattle.sender_rules.proofs.Congestion.SampleClaims as sample
 use Rattle.sender_rules.proofs.Congestion.PhaseClaims as phase
+
+pub lending : Lending
+lending time bytes = refl
 
 pub ours : Ours
 ours = record { echoes = echo.echoes; samples = sample.samples; phases = phase.phases }

@@ -32,12 +32,15 @@ use Rattle.sender_rules.specs.Connections.Claims.{StateInRange, InRange}
 use Rattle.sender_rules.proofs.Connections.Claims.{ranges}
 use Rattle.sender_rules.proofs.Connections.PartLaws.{state-part, window-part, request-part}
 use Rattle.sender_rules.specs.Sender.Calls.{Wish, wish, Transport, transport, Sending, sending, asked, askInRange, isBusy, isSoon, askReply, whileAsked, whileQuick, judged, taken, responseReply, granted, afterResponse, backTo, acknowledgedReply, lossReply, giveUpReply, senderCalls}
-use Rattle.sender_rules.specs.Sender.Claims.{Ours, SenderOnly, Sent, Asks, Takes, StaysInRange, Unchanged, Windows, askingBy, takingBy, ShutOut}
+use Rattle.sender_rules.specs.Sender.Claims.{Lending, Ours, SenderOnly, Sent, Asks, Takes, StaysInRange, Unchanged, Windows, askingBy, takingBy, ShutOut}
 use Rattle.sender_rules.proofs.Sender.CallLaws.{ask-facts}
 use Rattle.sender_rules.proofs.Sender.CallLaws as laws
 use Rattle.sender_rules.proofs.Sender.AskClaims.{asks, ask-only}
 use Rattle.sender_rules.proofs.Sender.ResponseClaims.{takes, respond-only, accepted-had, given}
 use Rattle.sender_rules.proofs.Sender.EndClaims.{ends, ack-only, loss-only, give-up-only}
+
+pub lending : Lending
+lending = record { wish-is = λ code ttl qs nonce rtt time. refl; transport-is = λ rtt mss headers. refl; sending-is = λ c request. refl }
 
 pub ours : Ours
 ours = record { asks = asks; takes = takes; ends = ends }

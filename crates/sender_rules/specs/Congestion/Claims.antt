@@ -13,6 +13,7 @@ use Rattle.sender_rules.specs.declared.Sample.{Sample}
 use Rattle.sender_rules.specs.declared.Connection.{Connection}
 use Rattle.sender_rules.specs.Connections.Records.{samplesOf, freshWith, withWindow, withSsthresh, withMark, withSamples, withPeriod}
 use Rattle.sender_rules.specs.Connections.Claims.{noSample, InRange}
+use Rattle.sender_rules.specs.Congestion.Phases.{sampleOf}
 use Rattle.sender_rules.specs.Congestion.Calls.{Congestion, congestionCalls}
 
 -- ---- the echo
@@ -51,6 +52,10 @@ pub record InTime (c : Connection) (time : ℕ) : Type 0 where
   pub after-start : (start : ℕ) → c .period ≡ Moments.At start → start ≤ time
 
 -- ---- samples
+
+-- what a function's arguments are handed on as
+abbrev pub Lending : Type 0
+Lending = (time bytes : ℕ) → sampleOf time bytes ≡ record { time = time; bytes = bytes }
 
 -- "sample bytes at most 2^40", and the record in range
 pub record SampleGiven (c : Connection) (s : Sample) : Type 0 where

@@ -18,7 +18,14 @@ use Rattle.sender_rules.specs.declared.Moment.the-variants.{At}
 use Rattle.sender_rules.specs.declared.Connection.{Connection}
 use Rattle.sender_rules.specs.Connections.Records.{freshWith, withState, withWindow, withLastRequest}
 use Rattle.sender_rules.specs.Connections.Claims.{InRange}
-use Rattle.sender_rules.specs.Sender.Calls.{Wish, wish, Transport, Sending, sending, Sender, senderCalls}
+use Rattle.sender_rules.specs.Sender.Calls.{Wish, wish, Transport, transport, Sending, sending, Sender, senderCalls}
+
+-- ---- what a function's arguments are handed on as
+
+pub record Lending : Type 0 where
+  pub wish-is : (code ttl qs nonce rtt time : ℕ) → wish code ttl qs nonce rtt time ≡ record { code = code; ttl = ttl; qs = qs; nonce = nonce; rtt = rtt; time = time }
+  pub transport-is : (rtt mss headers : ℕ) → transport rtt mss headers ≡ record { rtt = rtt; mss = mss; headers = headers }
+  pub sending-is : (c : Connection) (request : List ℕ) → sending c request ≡ record { connection = c; request = request }
 
 -- ---- asking
 

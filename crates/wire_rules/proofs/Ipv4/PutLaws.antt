@@ -209,6 +209,7 @@ forwarding = record {
       ∙ ap (passedOn reach) own
       ∙ puts reach packet (p .0) v (v .request) b (p .1) e (view-fits reach packet v b e .request-fits) refl h;
   malformed = λ reach packet w. simp w;
+  accepted = λ reach packet w h. (sealed (set packet ttlPlace (ipTtl packet - 1)), passed-of reach packet w h);
   expired = λ reach packet w h. simp (w, le-leb (ipTtl packet) 1 h);
   not-forwarded = λ reach n packet e. ap (λ (r : Reply ℕ). andThen r (λ header. passedOn reach packet)) e;
   forwarded-by = λ reach h packet e. ap (λ (r : Reply ℕ). andThen r (λ header. passedOn reach packet)) e;
@@ -225,6 +226,10 @@ forwarding = record {
   long = λ reach packet new e.
       ap length (passed-is reach packet new e .2) ∙ length-sealed (set packet ttlPlace (ipTtl packet - 1)) ∙ length-set packet ttlPlace (ipTtl packet - 1);
   bytes = λ reach packet new b e. subst Bytes (sym (passed-is reach packet new e .2)) (bytes-sealed (set packet ttlPlace (ipTtl packet - 1)) (aged-bytes packet b));
+  written = λ reach packet new e.
+      let p = passed-is reach packet new e in
+      let aged = set packet ttlPlace (ipTtl packet - 1) in
+      ap sealed (p .2) ∙ seals.again reach aged (form reach aged (ttl-form reach packet (ipTtl packet - 1) .0 ∙ p .0)) ∙ sym (p .2);
   passes = λ reach packet new b e.
       let p = passed-is reach packet new e in
       let s = ttl-form reach packet (ipTtl packet - 1) in

@@ -97,6 +97,8 @@ reading = record {
   damaged = damaged;
   ttl-read = λ reach packet w. simp w;
   ttl-refused = λ reach packet w. simp w;
+  header-long = λ reach packet w. length-take-le (headerLength packet) packet (form reach packet w .inside) ∙ header-length packet;
+  header-at = λ packet i h. getD-take (headerLength packet) packet i 0 (rw (header-length packet) h);
   area-long = λ reach packet w.
       length-drop optionsPlace (headerOf packet)
       ∙ ap (λ (n : ℕ). n - optionsPlace) (length-take-le (headerLength packet) packet (form reach packet w .inside));

@@ -85,7 +85,9 @@ pub record Reading : Type 0 where
   -- the IP TTL, or 1
   pub ttl-read : (reach : ℕ) (packet : List ℕ) → wellFormed reach packet ≡ true → ttlReply reach packet ≡ answer (getD packet 8 0)
   pub ttl-refused : (reach : ℕ) (packet : List ℕ) → wellFormed reach packet ≡ false → ttlReply reach packet ≡ refuse 1
-  -- the options area: the bytes of the header from byte 20 on
+  -- the header: so many bytes from the first on; and the options area: those of it from byte 20 on
+  pub header-long : (reach : ℕ) (packet : List ℕ) → wellFormed reach packet ≡ true → length (headerOf packet) ≡ getD packet 0 0 % 16 * 4
+  pub header-at : (packet : List ℕ) (i : ℕ) → i < getD packet 0 0 % 16 * 4 → getD (headerOf packet) i 0 ≡ getD packet i 0
   pub area-long : (reach : ℕ) (packet : List ℕ) → wellFormed reach packet ≡ true → length (optionsOf packet) ≡ headerLength packet - 20
   pub area-at : (packet : List ℕ) (i : ℕ) → 20 + i < headerLength packet → getD (optionsOf packet) i 0 ≡ getD packet (20 + i) 0
   -- the total length may reach as far as is said, and that is all that the reach is for
@@ -197,6 +199,7 @@ pub record Forwarding : Type 0 where
   -- 1 for a header that is not well formed, then 6 for an IP TTL of 0 or 1; a packet that came with a wrong header is not forwarded, and
   -- any other is passed on, whatever its options are
   pub malformed : (reach : ℕ) (packet : List ℕ) → wellFormed reach packet ≡ false → passedOn reach packet ≡ refuse 1
+  pub accepted : (reach : ℕ) (packet : List ℕ) → wellFormed reach packet ≡ true → 1 < getD packet 8 0 → (new : List ℕ) × (passedOn reach packet ≡ answer new)
   pub expired : (reach : ℕ) (packet : List ℕ) → wellFormed reach packet ≡ true → getD packet 8 0 ≤ 1 → passedOn reach packet ≡ refuse 6
   pub not-forwarded : (reach n : ℕ) (packet : List ℕ) → headerChecked reach packet ≡ refuse n → forwarded reach packet ≡ refuse n
   pub forwarded-by : (reach h : ℕ) (packet : List ℕ) → headerChecked reach packet ≡ answer h → forwarded reach packet ≡ passedOn reach packet
@@ -207,6 +210,7 @@ pub record Forwarding : Type 0 where
   pub long : (reach : ℕ) (packet new : List ℕ) → passedOn reach packet ≡ answer new → length new ≡ length packet
   pub bytes : (reach : ℕ) (packet new : List ℕ) → Bytes packet → passedOn reach packet ≡ answer new → Bytes new
   pub passes : (reach : ℕ) (packet new : List ℕ) → Bytes packet → passedOn reach packet ≡ answer new → headerChecked reach new ≡ answer (headerLength packet)
+  pub written : (reach : ℕ) (packet new : List ℕ) → passedOn reach packet ≡ answer new → sealed new ≡ new
   pub options-still : (reach : ℕ) (packet new : List ℕ) → Bytes packet → passedOn reach packet ≡ answer new → located reach new ≡ walked packet
 
 -- a marking, by what it answers of a packet and the packet that it leaves

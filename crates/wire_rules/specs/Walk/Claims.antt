@@ -8,7 +8,6 @@ use mathlib.Core.Path.{_≡_}
 use lib.ListN.{length, getD}
 use lib.Seq.{sets}
 use Rattle.refusals.specs.Reply.{Reply, answer, refuse}
-use Rattle.wire_rules.specs.Options.Wire.{kindIn, lengthIn}
 use Rattle.wire_rules.specs.declared.Place.{Place}
 use Rattle.wire_rules.specs.declared.Place.the-variants.{Nowhere, At}
 use Rattle.wire_rules.specs.Walk.Walks.{look, goOn, walk}
@@ -17,11 +16,11 @@ use Rattle.wire_rules.specs.Walk.Walks.{look, goOn, walk}
 
 -- a well-formed option of another type than 25, and neither an end nor a no-operation: its length byte is its length
 pub record Other (option : List ℕ) : Type 0 where
-  pub no-end : kindIn option ≡ 0 → ⊥
-  pub no-filler : kindIn option ≡ 1 → ⊥
-  pub no-request : kindIn option ≡ 25 → ⊥
+  pub no-end : getD option 0 0 ≡ 0 → ⊥
+  pub no-filler : getD option 0 0 ≡ 1 → ⊥
+  pub no-request : getD option 0 0 ≡ 25 → ⊥
   pub long : 2 ≤ length option
-  pub told : lengthIn option ≡ length option
+  pub told : getD option 1 0 ≡ length option
 
 -- bytes made of no-operations and well-formed options of other types
 pub data Skipped : List ℕ → Type 0 where
@@ -65,11 +64,11 @@ pub data Passed : List ℕ → Type 0 where
 -- an area with a fault, and its number: 3 for a length byte that is missing (it reads as 0), below 2 or above what is left, of a type 25
 -- too; 5 for a type 25 whose length is none of these and not 8, or that is a second one
 pub data Faulty : ℕ → List ℕ → Type 0 where
-  bad-length : (before left : List ℕ) → Passed before → (kindIn left ≡ 0 → ⊥) → (kindIn left ≡ 1 → ⊥) → (lengthIn left < 2) ⊎ (length left < lengthIn left)
+  bad-length : (before left : List ℕ) → Passed before → (getD left 0 0 ≡ 0 → ⊥) → (getD left 0 0 ≡ 1 → ⊥) → (getD left 1 0 < 2) ⊎ (length left < getD left 1 0)
       → Faulty 3 (before ++ left)
-  other-length : (before left : List ℕ) → Passed before → kindIn left ≡ 25 → 2 ≤ lengthIn left → lengthIn left ≤ length left → (lengthIn left ≡ 8 → ⊥)
+  other-length : (before left : List ℕ) → Passed before → getD left 0 0 ≡ 25 → 2 ≤ getD left 1 0 → getD left 1 0 ≤ length left → (getD left 1 0 ≡ 8 → ⊥)
       → Faulty 5 (before ++ left)
-  second : (before six between left : List ℕ) → Skipped before → length six ≡ 6 → Skipped between → kindIn left ≡ 25 → 2 ≤ lengthIn left → lengthIn left ≤ length left
+  second : (before six between left : List ℕ) → Skipped before → length six ≡ 6 → Skipped between → getD left 0 0 ≡ 25 → 2 ≤ getD left 1 0 → getD left 1 0 ≤ length left
       → Faulty 5 (before ++ (quickStartOption six ++ (between ++ left)))
 
 -- ---- the claims, of `walk` (Walks.antt) and of any other that would stand in for it
