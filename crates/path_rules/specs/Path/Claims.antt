@@ -220,9 +220,9 @@ pub record Running : Type 0 where
 -- the travel, hop by hop, and what a run leaves
 pub record Leaving : Type 0 where
   -- what is lent is packet and record; the calls are the sender's own and the receiver's, with a response buffer of 8 bytes
+  pub lends : (packet : List ℕ) (c : Connection) → journey packet c ≡ record { packet = packet; connection = c }
   pub asks : (c : Connection) (w : Wish) (buffer : List ℕ) → pathCalls .ask c w buffer ≡ senderCalls .ask c w buffer
   pub receives : (ceiling : ℕ) (packet : List ℕ) → pathCalls .receive ceiling packet ≡ received (length packet) ceiling 8 packet
-  pub lends : (packet : List ℕ) (c : Connection) → journey packet c ≡ record { packet = packet; connection = c }
   pub takes : (c : Connection) (response : List ℕ) (t : Transport) → pathCalls .takeResponse c response t ≡ senderCalls .takeResponse c response t
   pub nobody : (packet : List ℕ) → pathCalls .travel [] packet ≡ answering tt packet
   -- "on the packet as the last one left it"

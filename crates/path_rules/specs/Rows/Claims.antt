@@ -230,7 +230,8 @@ pub record ForC : Type 0 where
   -- no byte behind the header is read or changed
   pub header-only : (c : Connection) (p q : List ℕ) (hops : List Hop) (ceiling : ℕ) (t : Transport) → SameHeader p q
       → AlikeRuns p q (hopsCall 64 c p hops ceiling t) (hopsCall 64 c q hops ceiling t)
-  -- that record waits for the response to the request that is told, and is in range exactly when the request is: "a code asked .. 1 to 15", a nonce below 2^30
+  -- that record waits for the response to the request that is told, and is in range exactly when the request is: "a code asked .. 1 to
+  -- 15", a nonce below 2^30
   pub own-state : (code diff nonce : ℕ) → openFor code diff nonce .state ≡ Asked (record { code = code; «ttl_diff» = diff; nonce = nonce })
   pub own-in : (code diff nonce : ℕ) → 1 ≤ code → code ≤ 15 → nonce < 1073741824 → InRange (openFor code diff nonce)
   pub own-only : (code diff nonce : ℕ) → InRange (openFor code diff nonce) → (1 ≤ code) × (code ≤ 15) × (nonce < 1073741824)
