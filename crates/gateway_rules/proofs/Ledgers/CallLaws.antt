@@ -14,7 +14,8 @@ use Rattle.common.proofs.Choice.{chosen, both-true, within-low, within-high, in
 use Rattle.refusals.specs.Reply.{Reply, answer, refuse, leaves, andThen}
 use Rattle.refusals.proofs.ReplyLaws.{answered, same-answer, through}
 use Rattle.refusals.proofs.ReplyLaws as replies
-use Rattle.wire_rules.specs.Rates.Steps.{topCode, rateOf, Greatest}
+use Rattle.wire_rules.specs.Rates.Steps.{topCode, rateOf}
+use Rattle.wire_rules.specs.Rates.Claims.{Greatest}
 use Rattle.wire_rules.proofs.Rates.StepLaws.{greatest-rule}
 use Rattle.gateway_rules.specs.declared.Ledger.{Ledger}
 use Rattle.gateway_rules.specs.Ledgers.Rows.{total, passed, movedOn}

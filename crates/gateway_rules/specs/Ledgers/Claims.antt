@@ -8,7 +8,8 @@ use lib.Dec.{ltb, eqb}
 use lib.ListN.{length, getD, set, replicate}
 use Rattle.common.specs.Choice.{pick, within}
 use Rattle.refusals.specs.Reply.{Reply, answer, refuse, andThen, Outcome}
-use Rattle.wire_rules.specs.Rates.Steps.{topCode, rateOf, Greatest}
+use Rattle.wire_rules.specs.Rates.Steps.{topCode, rateOf}
+use Rattle.wire_rules.specs.Rates.Claims.{Greatest}
 use Rattle.gateway_rules.specs.declared.Ledger.{Ledger}
 use Rattle.gateway_rules.specs.Ledgers.Rows.{total, cleared, movedOn, charged}
 use Rattle.gateway_rules.specs.Ledgers.Calls.{Link, lent, setUpReply, moveReply, grantOf, Granted, granted, askReply}

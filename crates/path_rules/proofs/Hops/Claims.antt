@@ -1,4 +1,5 @@
 -- The claims of specs/Hops/Claims.antt. Assumes nothing.
+use mathlib.Core.Path.{refl}
 use Rattle.path_rules.specs.Hops.Verdicts.{verdictReply}
 use Rattle.path_rules.specs.Hops.Claims.{Rows, Summing, Joining, JudgingTheorem, JudgingOnly}
 use Rattle.path_rules.proofs.Hops.SpellLaws as spells
@@ -8,6 +9,7 @@ use Rattle.path_rules.proofs.Hops.VerdictLaws as verdicts
 
 pub rows : Rows
 rows = record {
+  most = refl;
   reads = spells.row-reads;
   only = spells.row-only;
   seven = spells.row-seven;

@@ -351,6 +351,9 @@ leaving = record {
   is-unanswered = λ c packet ceiling t routers e f.
       ap (λ (x : Reply (Unit {0})). arrived pathCalls c t ceiling x (pathCalls .travel routers packet .left) .verdict) e
       ∙ ap (λ (x : Reply Report). concluded pathCalls c t (pathCalls .travel routers packet .left) x .verdict) f;
+  is-not-received = λ c packet ceiling t routers n e f.
+      ap (λ (x : Reply (Unit {0})). arrived pathCalls c t ceiling x (pathCalls .travel routers packet .left) .verdict) e
+      ∙ ap (λ (x : Reply Report). concluded pathCalls c t (pathCalls .travel routers packet .left) x .verdict) f;
   is-accepted = λ c packet ceiling t routers r rate e f g. said-taken c ceiling t (pathCalls .travel routers packet .said) (pathCalls .travel routers packet .left) r (answer rate) e f g;
   is-refused = λ c packet ceiling t routers r n e f g. said-taken c ceiling t (pathCalls .travel routers packet .said) (pathCalls .travel routers packet .left) r (refuse n) e f g;
 }

@@ -10,7 +10,7 @@ use Rattle.refusals.specs.Reply.{Reply, answer, refuse, andThen}
 use Rattle.path_rules.specs.declared.Router.{Router}
 use Rattle.path_rules.specs.declared.Router.the-variants.{Knowing, Silent}
 use Rattle.path_rules.specs.declared.Summary.{Summary}
-use Rattle.path_rules.specs.Hops.Rows.{recordOf, rowOf}
+use Rattle.path_rules.specs.Hops.Rows.{mostRouters, recordOf, rowOf}
 use Rattle.path_rules.specs.Hops.Summaries.{summaryOf, summaryInRange, summaryReply, joined, joinReply}
 use Rattle.path_rules.specs.Hops.Verdicts.{Verdict, lost, unanswered, notAccepted, accepted, verdictReply}
 
@@ -41,6 +41,8 @@ spelled (router ∷ rest) = recordOf router ++ spelled rest
 -- a row is what spells a list of routers that is not longer than the limit; it is then read as that list, and as no other; anything else
 -- gives 7
 pub record Rows : Type 0 where
+  -- "up to 64": the limit that the calls have
+  pub most : mostRouters ≡ 64
   pub reads : (limit : ℕ) (routers : List Router) (bytes : List ℕ) → Spells routers bytes → length routers ≤ limit → rowOf limit bytes ≡ answer routers
   pub only : (limit : ℕ) (routers : List Router) (bytes : List ℕ) → rowOf limit bytes ≡ answer routers → Spells routers bytes × (length routers ≤ limit)
   pub seven : (limit : ℕ) (bytes : List ℕ) → ((routers : List Router) → Spells routers bytes → length routers ≤ limit → ⊥) → rowOf limit bytes ≡ refuse 7

@@ -246,6 +246,8 @@ pub record Leaving : Type 0 where
       → runBy pathCalls c t ceiling routers packet .verdict ≡ lost
   pub is-unanswered : (c : Connection) (packet : List ℕ) (ceiling : ℕ) (t : Transport) (routers : List Router) → pathCalls .travel routers packet .said ≡ answer tt
       → pathCalls .receive ceiling (pathCalls .travel routers packet .left) ≡ answer Reports.unanswered → runBy pathCalls c t ceiling routers packet .verdict ≡ unanswered
+  pub is-not-received : (c : Connection) (packet : List ℕ) (ceiling : ℕ) (t : Transport) (routers : List Router) (n : ℕ) → pathCalls .travel routers packet .said ≡ answer tt
+      → pathCalls .receive ceiling (pathCalls .travel routers packet .left) ≡ refuse n → runBy pathCalls c t ceiling routers packet .verdict ≡ notAccepted n
   pub is-accepted : (c : Connection) (packet : List ℕ) (ceiling : ℕ) (t : Transport) (routers : List Router) (response : Response) (rate : ℕ) → pathCalls .travel routers packet .said ≡ answer tt
       → pathCalls .receive ceiling (pathCalls .travel routers packet .left) ≡ answer (reported response)
       → senderCalls .takeResponse c (responseAfter blank (answer (reported response))) t .said ≡ answer rate → runBy pathCalls c t ceiling routers packet .verdict ≡ accepted rate

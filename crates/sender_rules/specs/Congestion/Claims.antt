@@ -211,7 +211,7 @@ AllAdded c (s ∷ earlier) = (congestionCalls .sample (addAll c earlier) s .said
 abbrev pub LastFive : Type 0
 LastFive = (window ssthresh : ℕ) (added : List Sample) → AllAdded (freshWith window ssthresh) added → samplesOf (addAll (freshWith window ssthresh) added) ≡ take 5 added
 
--- what stands behind the samples of a record means nothing to these calls
+-- what these calls say does not depend on what stands behind the samples of a record
 pub record Places : Type 0 where
   pub echo : (c : Connection) (other : List Sample) (acknowledgement highest mss : ℕ) → take (c .count) other ≡ samplesOf c
       → congestionCalls .echo (withSamples c other (c .count)) acknowledgement highest mss .said ≡ congestionCalls .echo c acknowledgement highest mss .said

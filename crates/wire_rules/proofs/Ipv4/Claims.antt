@@ -1,13 +1,19 @@
 -- The claims of specs/Ipv4/Claims.antt, from the laws of sums, of sealed packets, of options and of views. Assumes nothing.
 use Rattle.wire_rules.specs.Ipv4.Packets.{walked}
 use Rattle.refusals.specs.Reply.{Reply, andThen}
-use Prim.Native.Nat.{ℕ, zero, suc, _%_}
-use mathlib.Core.Path.{_≡_, refl, sym, ap, _∙_}
+use Prim.Native.Nat.{ℕ, zero, suc, _+_, _-_, _*_, _/_, _%_}
+use mathlib.Core.Bool.{true}
+use mathlib.Core.List.{List}
+use mathlib.Core.Path.{_≡_, refl, sym, ap, ap₂, _∙_}
 use native.Mathlib.Omega.{arith}
+use borrow.Author.Tests.{ne-eqb}
+use lib.ListN.{set, length-set}
+use lib.Seq.{getD-set-same, getD-set-other}
 use Rattle.wire_rules.specs.declared.Place.the-variants.{Nowhere, At}
 use Rattle.wire_rules.proofs.Walk.Claims.{walkingTheorem}
-use Rattle.wire_rules.specs.Ipv4.Headers.{optionsOf}
-use Rattle.wire_rules.specs.Ipv4.Checksums.{allOnes}
+use Rattle.wire_rules.specs.Ipv4.Headers.{checksumIn, headerOf, optionsOf}
+use Rattle.wire_rules.specs.Ipv4.Checksums.{allOnes, onesSum, withChecksum, checksumOf, sealed}
+use Rattle.wire_rules.specs.Ipv4.Checks.{wellFormed}
 use Rattle.wire_rules.specs.Ipv4.Claims.{wordTotal, Summing, Sealing, Reading, Locating, Viewing, Forwarding, MarkingTheorem, MarkingOnly, MarkedStill, BehindHeader}
 use Rattle.wire_rules.proofs.Ipv4.ChecksumLaws.{folded, folded-limit, sum-folded, length-sealed}
 use Rattle.wire_rules.proofs.Ipv4.HeaderLaws.{form, good, checked-when}
@@ -37,6 +43,20 @@ summing = record {
   only-zero = λ l b e. folded-zero (wordTotal l) (sym (sum-folded l b) ∙ e);
 }
 
+-- the checksum that is written, in the paper's numbers, and that it then stands in its field
+complement : (header : List ℕ) → checksumOf header ≡ 65535 - onesSum (set (set header 10 0) 11 0)
+unfolding checksumOf withChecksum
+complement header = refl
+
+field-is : (reach : ℕ) (packet : List ℕ) → wellFormed reach packet ≡ true → checksumIn (sealed packet) ≡ checksumOf (headerOf packet)
+unfolding sealed withChecksum
+field-is reach packet w =
+    let c = checksumOf (headerOf packet) in
+    let f = form reach packet w .long in
+    let high = getD-set-other (set packet 10 (c / 256)) 11 10 (c % 256) 0 (λ e. absurd (omega arith)) ∙ getD-set-same packet 10 (c / 256) 0 (omega (arith, f)) in
+    let low = getD-set-same (set packet 10 (c / 256)) 11 (c % 256) 0 (rw (length-set packet 10 (c / 256)) (omega (arith, f))) in
+    ap₂ (λ (x y : ℕ). x * 256 + y) high low ∙ omega arith
+
 pub sealing : Sealing
 sealing = record {
   sum = λ reach p b w. sum-sealed reach p (form reach p w) b;
@@ -46,6 +66,10 @@ sealing = record {
   bytes = bytes-sealed;
   again = λ reach p w. seals.again reach p (form reach p w);
   writes = λ reach p w. simp w;
+  right = checked-when;
+  wrong = λ reach p w n. simp (w, ne-eqb (onesSum (headerOf p)) 65535 n);
+  complement = complement;
+  field-is = field-is;
   one = λ reach p w. simp w;
   valid = λ reach h p b e. let g = good reach h p (sym e) .0 in which reach p (g .form-is) b (g .sum);
   accepted = λ reach p b w v. checked-when reach p w (which-pass reach p (form reach p w) b v);

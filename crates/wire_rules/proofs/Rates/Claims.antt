@@ -1,5 +1,5 @@
 -- The claims of specs/Rates/Claims.antt, from the laws of the steps and of the window. Assumes nothing.
-use Prim.Native.Nat.{ℕ, zero, suc, _*_, _^_, _≤_}
+use Prim.Native.Nat.{ℕ, zero, suc, _*_, _^_, _≤_, _<_}
 use mathlib.Core.Bool.{true, false}
 use mathlib.Core.Path.{_≡_, refl, sym}
 use mathlib.Core.Logic.{⊎-elim}
@@ -36,6 +36,10 @@ up-mono wish more p h =
     (λ g. let e = high .top g in let k = low .up-to in omega arith)
     (le-or-gt more (rateOf topCode))
 
+up-above : (wish : ℕ) → 40000 * 2 ^ 15 < wish → roundedUp wish ≡ 15
+unfolding rateOf
+up-above wish h = steps.up-rule wish (omega (arith, h)) .top h
+
 pub roundingUp : RoundingUp
 roundingUp = record {
   rule = steps.up-rule;
@@ -47,6 +51,7 @@ roundingUp = record {
     top = λ g. absurd (not-le-of-lt g (steps.rate-mono code topCode h));
   } (steps.up-rule (rateOf code) (steps.rate-positive code p)));
   monotone = up-mono;
+  above = up-above;
 }
 
 pub windows : Windows

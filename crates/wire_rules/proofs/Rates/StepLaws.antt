@@ -8,7 +8,8 @@ use native.Mathlib.Omega.{arith}
 use lib.Dec.{lit<}
 use lib.Pow.{pow-pos, pow-mono, pow-lt}
 use Rattle.common.proofs.Choice.{by-leb, le-or-gt}
-use Rattle.wire_rules.specs.Rates.Steps.{topCode, rateOf, greatestUpTo, roundedDown, leastFrom, roundedUp, Greatest, Least}
+use Rattle.wire_rules.specs.Rates.Steps.{topCode, rateOf, greatestUpTo, roundedDown, leastFrom, roundedUp}
+use Rattle.wire_rules.specs.Rates.Claims.{Greatest, Least}
 
 -- ---- rates
 

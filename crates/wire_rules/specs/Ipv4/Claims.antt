@@ -8,7 +8,7 @@ use mathlib.Core.Logic.{_⊎_}
 use mathlib.Core.Option.{Option, none, some}
 use mathlib.Core.Path.{_≡_}
 use lib.Dec.{leb}
-use lib.ListN.{length, getD}
+use lib.ListN.{length, getD, set}
 use Rattle.common.specs.Lists.{Bytes}
 use Rattle.refusals.specs.Reply.{Reply, answer, refuse, leaves, done}
 use Rattle.wire_rules.specs.Rates.Steps.{topCode}
@@ -59,6 +59,12 @@ pub record Sealing : Type 0 where
   -- writing it answers the sealed packet where the header is well formed, and 1 where it is not
   pub writes : (reach : ℕ) (packet : List ℕ) → wellFormed reach packet ≡ true → sealedReply reach packet ≡ answer (sealed packet)
   pub one : (reach : ℕ) (packet : List ℕ) → wellFormed reach packet ≡ false → sealedReply reach packet ≡ refuse 1
+  -- "The one's complement sum of its 16-bit words, folded, is 65,535": then it passes, and else it gives 2
+  pub right : (reach : ℕ) (packet : List ℕ) → wellFormed reach packet ≡ true → onesSum (headerOf packet) ≡ 65535 → headerChecked reach packet ≡ answer (headerLength packet)
+  pub wrong : (reach : ℕ) (packet : List ℕ) → wellFormed reach packet ≡ true → (onesSum (headerOf packet) ≡ 65535 → ⊥) → headerChecked reach packet ≡ refuse 2
+  -- "the complement of the folded sum with its own field zero", and sealing writes that one
+  pub complement : (header : List ℕ) → checksumOf header ≡ 65535 - onesSum (set (set header 10 0) 11 0)
+  pub field-is : (reach : ℕ) (packet : List ℕ) → wellFormed reach packet ≡ true → checksumIn (sealed packet) ≡ checksumOf (headerOf packet)
   -- which checksums pass
   pub valid : (reach h : ℕ) (packet : List ℕ) → Bytes packet → headerChecked reach packet ≡ answer h → ValidChecksum packet
   pub accepted : (reach : ℕ) (packet : List ℕ) → Bytes packet → wellFormed reach packet ≡ true → ValidChecksum packet → headerChecked reach packet ≡ answer (headerLength packet)

@@ -1,6 +1,5 @@
 -- The fifteen steps of speed (document 01, "Steps of speed"): the rate of a code, and the two roundings. Assumes nothing.
-use Prim.Native.Nat.{ℕ, zero, suc, _-_, _*_, _^_, _≤_, _<_}
-use mathlib.Core.Path.{_≡_}
+use Prim.Native.Nat.{ℕ, zero, suc, _-_, _*_, _^_}
 use lib.Dec.{leb}
 use Rattle.common.specs.Choice.{pick}
 use Rattle.refusals.specs.Reply.{Reply, answer, refuse}
@@ -29,12 +28,6 @@ greatestUpTo (suc n) bits =
 unfoldable pub roundedDown : ℕ → ℕ
 roundedDown bits = greatestUpTo topCode bits
 
--- that rule: `code` is the greatest of the codes up to `top` whose rate is at most `bits`
-pub record Greatest (top bits code : ℕ) : Type 0 where
-  pub up-to : code ≤ top
-  pub fits : rateOf code ≤ bits
-  pub greatest : (d : ℕ) → d ≤ top → rateOf d ≤ bits → d ≤ code
-
 -- the first of the codes from `code` on whose rate is at least `wish`; only `tries` of them are tried, and the next is taken after those
 unfoldable pub leastFrom : ℕ → ℕ → ℕ → ℕ
 leastFrom zero code wish = code
@@ -46,13 +39,6 @@ leastFrom (suc tries) code wish =
 -- last but one the highest is left
 unfoldable pub roundedUp : ℕ → ℕ
 roundedUp wish = leastFrom (topCode - 1) 1 wish
-
--- that rule: `code` is the least code whose rate is at least `wish`, and the highest where no code has such a rate
-pub record Least (wish code : ℕ) : Type 0 where
-  pub up-to : code ≤ topCode
-  pub enough : wish ≤ rateOf topCode → wish ≤ rateOf code
-  pub least : (d : ℕ) → d ≤ topCode → wish ≤ rateOf d → code ≤ d
-  pub top : rateOf topCode < wish → code ≡ topCode
 
 -- "a wish of 0 is refused with 7"
 abbrev pub roundedUpReply : ℕ → Reply ℕ
