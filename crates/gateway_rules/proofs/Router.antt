@@ -8,5 +8,5 @@ pub mod LedgerLaws
 pub mod OnlyLaws
 pub mod OneRouter
 pub mod TrafficLaws
-pub mod BehindLaws
+pub mod UnreadLaws
 pub mod Claims

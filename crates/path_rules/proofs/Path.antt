@@ -7,5 +7,5 @@ pub mod PathLaws
 pub mod PlainLaws
 pub mod ShutOutLaws
 pub mod RunClaims
-pub mod BehindLaws
+pub mod UnreadLaws
 pub mod Claims

@@ -27,7 +27,7 @@ use Rattle.gateway_rules.specs.Router.Decisions.{oneLess, decided}
 use Rattle.gateway_rules.specs.Router.Routers.{routerInRange, wishOf, Passage}
 use Rattle.gateway_rules.specs.Router.Claims.{Deciding, Given, Carries, RoutingOnly, SilentHop, WithLedger, Ours, BehindHeader, AllowanceTheorem, touchingNothing, ShutOut}
 use Rattle.gateway_rules.specs.Router.Traffic.{Arrival}
-use Rattle.gateway_rules.proofs.Router.BehindLaws as behind
+use Rattle.gateway_rules.proofs.Router.UnreadLaws as behind
 use Rattle.gateway_rules.proofs.Router.CallLaws.{wish-low, ledger-by, from-ledger}
 use Rattle.gateway_rules.proofs.Router.HopLaws.{given-ok, routed-view}
 use Rattle.gateway_rules.proofs.Router.TrafficLaws as traffic

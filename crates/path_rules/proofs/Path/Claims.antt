@@ -7,7 +7,7 @@ use Rattle.path_rules.specs.Path.Claims.{PathLaw, NotEmpty, BehindHeader
 use Rattle.path_rules.proofs.Path.PathLaws.{summary-law, accepting, cutting, ordered, by-6}
 use Rattle.path_rules.proofs.Path.PlainLaws.{carried}
 use Rattle.path_rules.proofs.Path.ShutOutLaws.{shut-out}
-use Rattle.path_rules.proofs.Path.BehindLaws.{call-alike}
+use Rattle.path_rules.proofs.Path.UnreadLaws.{call-alike}
 
 pub notEmpty : NotEmpty pathCalls
 notEmpty = record { asks = freshAsks; packets = carried }

@@ -41,7 +41,7 @@ use Rattle.path_rules.specs.Path.Claims.{Demanded, InRanges, Starts, Ari
 use Rattle.path_rules.proofs.Path.PathLaws.{given, sent}
 use Rattle.path_rules.proofs.Path.RunClaims.{either-ranges, running}
 use Rattle.path_rules.proofs.Path.Claims.{pathLaw}
-use Rattle.path_rules.proofs.Path.BehindLaws.{call-alike}
+use Rattle.path_rules.proofs.Path.UnreadLaws.{call-alike}
 use Rattle.path_rules.specs.Path.OwnSender.{window, ssthresh, ownTransport}
 use Rattle.path_rules.specs.declared.Hop.{Hop}
 use Rattle.path_rules.specs.Rows.Rows.{routersOf, hopsRow, hopsCall}

@@ -23,7 +23,7 @@ use Rattle.wire_rules.proofs.Ipv4.SealLaws as seals
 use Rattle.wire_rules.proofs.Ipv4.ReadLaws as reads
 use Rattle.wire_rules.proofs.Ipv4.PutLaws as puts
 use Rattle.wire_rules.proofs.Ipv4.MarkLaws as marks
-use Rattle.wire_rules.proofs.Ipv4.BehindLaws as behind
+use Rattle.wire_rules.proofs.Ipv4.UnreadLaws as behind
 
 -- ---- the checksum
 

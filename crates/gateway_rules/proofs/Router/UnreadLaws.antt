@@ -10,7 +10,7 @@ use Rattle.refusals.specs.Reply.{Reply, answer, refuse, leaves, done, andThen}
 use Rattle.wire_rules.specs.Ipv4.Views.{View, view, put}
 use Rattle.wire_rules.specs.Ipv4.Claims.{SameHeader, LeftAlike, Alike}
 use Rattle.wire_rules.proofs.Ipv4.OptionLaws.{view-place}
-use Rattle.wire_rules.proofs.Ipv4.BehindLaws.{alike-refused, alike-chosen, put-alike}
+use Rattle.wire_rules.proofs.Ipv4.UnreadLaws.{alike-refused, alike-chosen, put-alike}
 use Rattle.wire_rules.proofs.Ipv4.Claims as packets
 use Rattle.gateway_rules.specs.Ledgers.Calls.{Link, linkInRange, Granted}
 use Rattle.gateway_rules.specs.Router.Routers.{routerInRange, unexpired, routedView, routed, wishOf, ceilingFrom, Passage, passage, routedByLedger, ledgerRouter}

@@ -10,7 +10,7 @@ use Rattle.refusals.specs.Reply.{Reply, answer, refuse, leaves, andThen}
 use Rattle.wire_rules.specs.Options.Wire.{optionLength}
 use Rattle.wire_rules.specs.Ipv4.Views.{View, view}
 use Rattle.wire_rules.specs.Ipv4.Claims.{SameHeader, LeftAlike, Alike}
-use Rattle.wire_rules.proofs.Ipv4.BehindLaws.{same-left}
+use Rattle.wire_rules.proofs.Ipv4.UnreadLaws.{same-left}
 use Rattle.wire_rules.proofs.Ipv4.Claims as packets
 use Rattle.gateway_rules.specs.Router.Routers.{routed, silentlyRouted}
 use Rattle.gateway_rules.proofs.Router.Claims as routers
