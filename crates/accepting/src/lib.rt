@@ -1,6 +1,8 @@
 // The sender takes the response to its request, and accepts the rate or not. The call takes the connection's record by
 // value and hands it back beside its answer; a refused call hands it back unchanged, but for 13, 14 and 15, which end
 // the open request.
+#![tactic(auto)]
+
 ghost use Rattle.std.specs.Prelude.{◌≡◌, true, ◌≤◌, ◌<◌, length};
 ghost use Rattle.wire_rules.specs.Rates.Steps.{top_code};
 ghost use Rattle.wire_rules.specs.Rates.Window.{transport_in_range, window_bytes};

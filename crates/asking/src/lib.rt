@@ -1,6 +1,8 @@
 // The sender asks: it writes the request into a lent buffer, and the connection waits for the response from then on. The
 // call takes the connection's record by value and hands it back beside its answer; a refused call hands it back
 // unchanged.
+#![tactic(auto)]
+
 ghost use Rattle.std.specs.Prelude.{◌≡◌};
 ghost use Rattle.refusals.specs.Replies.{answer_told};
 ghost use Rattle.sender_rules.specs.Sender.Calls.{wish, ask_in_range, is_busy, is_soon, asked, sending, sender_calls};

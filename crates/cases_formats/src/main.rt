@@ -1,5 +1,7 @@
 // Runs the lowest layers on the documents' figures and on both sides of every boundary, and prints
 // what they answer, a line for each call: its name, its arguments, and its answer or refusal.
+#![tactic(auto)]
+
 use nonce::{Agreement, Nonce};
 use options::{request, response};
 use printing::{bytes, number, say};

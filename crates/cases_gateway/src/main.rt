@@ -4,6 +4,8 @@
 // record and slots before them where it has one, and the response's bytes after a receiver. A packet is document 01's or
 // the one called mixed below, with the bytes changed that its name tells and the checksum of that header; its
 // last eight bytes are the option.
+#![tactic(auto)]
+
 ghost use Rattle.std.specs.Prelude.{◌<◌};
 
 use gateway_rules::Ledger;

@@ -2,6 +2,8 @@
 // edges of the refusals, and grants at the boundaries of what the allowance leaves. A line for a call has its
 // numbers, then the answer with the row's total and the stored tick after it, or the refusal. The other lines
 // have a ledger's tick, its allowance and its slots.
+#![tactic(auto)]
+
 use gateway_rules::Ledger;
 use ledger::{Grant, SetUp};
 use printing::{number, numbers, refused, say};

@@ -1,6 +1,8 @@
 // Runs packets through the header's check, the reading of the IP TTL, the walk of the options, forwarding
 // and ECN marking, and prints what they answer. The first line for a packet has its name and its bytes; then comes a line for
 // each call, with the name, the call, and the answer, the bytes afterwards or the refusal.
+#![tactic(auto)]
+
 use ipv4::ecn::Marking;
 use ipv4::{Checked, IpTtl, ecn};
 use printing::{answer, number, refused, say, start};

@@ -3,6 +3,8 @@
 // the buffer after asking, and the record that was handed back: window, ssthresh and state, then the time of the last
 // request, the mark, the period's start and the samples, where it has them, the newest sample first. Of a request the
 // state has the code, the TTL Diff and the nonce, and while quick the window before.
+#![tactic(auto)]
+
 use calls::{
     FIELDS, HEADERS, NEITHER, RELAY, SEGMENT, acknowledged, answer, ask_into, idle, loss, phase,
     respond, response_to, sample,

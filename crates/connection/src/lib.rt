@@ -1,5 +1,7 @@
 // Functions on the sender's record of one connection (`sender_rules::Connection`), which is taken and handed back by
 // value. A record is made of numbers too: every call tests them, and refuses a record that is out of range with 7.
+#![tactic(auto)]
+
 ghost use Rattle.std.specs.Prelude.{◌≡◌, ◌≤◌, min, max, take};
 ghost use Rattle.refusals.specs.Replies.{answer_told};
 ghost use Rattle.sender_rules.specs.Congestion.Echoes.{halved};

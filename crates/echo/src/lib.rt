@@ -1,5 +1,7 @@
 // The reaction to an ECN echo (RFC 2481). The call takes the connection's record by value and hands it back beside its
 // answer; a refused call hands it back unchanged. It is allowed in every state of a request and leaves it alone.
+#![tactic(auto)]
+
 ghost use Rattle.std.specs.Prelude.{◌≡◌};
 ghost use Rattle.sender_rules.specs.Congestion.Echoes.{is_ahead, reacted};
 ghost use Rattle.sender_rules.specs.Congestion.Calls.{congestion_calls};

@@ -1,5 +1,7 @@
 // What ends the sender's request, and the quick state: the first acknowledgement, a loss, giving up. Each call takes the
 // connection's record by value and hands it back beside its answer; a refused call hands it back unchanged.
+#![tactic(auto)]
+
 ghost use Rattle.std.specs.Prelude.{◌≡◌};
 ghost use Rattle.refusals.specs.Replies.{answer_told};
 ghost use Rattle.sender_rules.specs.Sender.Calls.{back_to, sender_calls};

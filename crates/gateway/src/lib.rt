@@ -1,6 +1,8 @@
 // The functions exported to C forwarding loops. Each answers with a number: 0 for what was done, 1 to 15 for the
 // refusals of the table, 40 for a receiver that leaves a request unanswered, 41 for a packet that marking would drop.
 // include/quickstart.h tells a caller in C what each function does; here each has the contract of what it stands for.
+#![tactic(auto)]
+
 ghost use Rattle.std.specs.Prelude.{◌≡◌, length};
 ghost use Rattle.refusals.specs.Reply.{leaves, done};
 ghost use Rattle.wire_rules.specs.Ipv4.Marks.{mark_reply, marked_packet};

@@ -1,5 +1,7 @@
 // Rows of hops as bytes, their summaries, and the verdict of a summary. A row is the program's records of kinds 2 and
 // 3, one after the other: a router that knows Quick-Start, with its ceiling and its fresh nonce, or a silent one.
+#![tactic(auto)]
+
 ghost use Rattle.std.specs.Prelude.{◌≡◌, ◌+◌, ◌*◌, ◌/◌, ◌≤◌, ◌<◌, length, drop};
 ghost use Rattle.wire_rules.specs.Rates.Steps.{top_code};
 ghost use Rattle.wire_rules.specs.Options.Wire.{word_from};

@@ -1,5 +1,7 @@
 // What a router and a receiver read of a packet before they decide: its IP TTL and, where it has one, its
 // request with the place of the option.
+#![tactic(auto)]
+
 ghost use Rattle.std.specs.Prelude.{◌≡◌, length};
 ghost use Rattle.wire_rules.specs.Ipv4.Views.{request_at};
 ghost use Rattle.gateway_rules.specs.Inspect.Sights.{asking_at, sighted};

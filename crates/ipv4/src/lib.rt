@@ -1,5 +1,7 @@
 // The IPv4 header of a packet: its check and its checksum, the place of its Quick-Start option, and
 // passing it on. Bytes behind the header are neither read nor changed.
+#![tactic(auto)]
+
 ghost use Rattle.std.specs.Prelude.{◌≡◌, ◌+◌, ◌%◌, ◌<◌, ◌≤◌, length};
 ghost use Rattle.refusals.specs.Reply.{leaves, done};
 ghost use Rattle.refusals.specs.Replies.{answer_told};

@@ -3,6 +3,8 @@
 // of the caller's clock; the slot of a tick is the tick modulo the row's length, and holds the sum
 // of the rates approved at that tick. So with S slots the row's total is what was approved at the
 // last S ticks, and that never passes the allowance.
+#![tactic(auto)]
+
 ghost use Rattle.std.specs.Prelude.{◌≡◌, ◌+◌, ◌≤◌, ◌<◌, min, length, replicate};
 ghost use Rattle.refusals.specs.Replies.{answer_told};
 ghost use Rattle.wire_rules.specs.Rates.Steps.{top_code, rate_of, greatest_up_to};

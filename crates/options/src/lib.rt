@@ -1,5 +1,7 @@
 // The eight bytes of a Quick-Start request, an option of the IPv4 header, and of a Quick-Start
 // response, an option of the TCP header.
+#![tactic(auto)]
+
 ghost use Rattle.std.specs.Prelude.{◌≡◌, ◌<◌, length, slice_index};
 ghost use Rattle.wire_rules.specs.Options.Wire.{option_length, nonce_limit, word_from, word_of, option_bytes, option_written, fields_fit, rate_in, ttl_in, nonce_in};
 ghost use Rattle.refusals.specs.Reply.{leaves, done};

@@ -1,6 +1,8 @@
 // The run of a path: a packet goes from hop to hop, each router or silent router on the packet as the last one left it,
 // then to the receiver, and what the receiver answers goes back to the sender. It calls the very functions that a
 // gateway calls.
+#![tactic(auto)]
+
 ghost use Rattle.std.specs.Prelude.{◌≡◌};
 ghost use Rattle.refusals.specs.Reply.{answer, leaves, done};
 ghost use Rattle.refusals.specs.Replies.{answer_told};

@@ -2,10 +2,11 @@
 // A rules crate has types, definitions, laws and claims, and no function. Here are the types that its definitions
 // speak of; specs/ says what is promised, in the order that specs/Lib.antt gives; proofs/ proves it. The functions
 // that keep these rules stand in the crates hops, path, plan and rows.
+#![tactic(auto)]
 
 // ---- hops
 
-#[derive(Drop)]
+#[derive(Clone, Copy)]
 pub enum Router {
     // One that knows Quick-Start, with its ceiling and its fresh nonce.
     Knowing(u32, u32),
@@ -14,7 +15,7 @@ pub enum Router {
 
 // The summary of a part of a path: its routers, the silent ones among them, and the least ceiling of those that know
 // Quick-Start, 15 if there are none.
-#[derive(Drop)]
+#[derive(Clone, Copy)]
 pub struct Summary {
     pub routers: u32,
     pub silent: u32,
@@ -26,7 +27,7 @@ pub struct Summary {
 // A router on a path: whether it knows Quick-Start, its ceiling and its fresh nonce. A row in which either number is out
 // of range, a silent hop's too, is refused with 7.
 #[repr(C)]
-#[derive(Drop)]
+#[derive(Clone, Copy)]
 pub struct Hop {
     pub knows: bool,
     pub ceiling: u32,

@@ -1,6 +1,8 @@
 // The phase of pipeACK (RFC 7661): whether a connection's window is validated by its samples, and what is done when it has
 // not been for long. The call takes the connection's record by value and hands it back beside its answer; a refused call
 // hands it back unchanged. It is allowed in every state of a request and leaves it alone.
+#![tactic(auto)]
+
 ghost use Rattle.std.specs.Prelude.{◌≡◌, ◌≤◌, take};
 ghost use Rattle.wire_rules.specs.Rates.Window.{longest_rtt};
 ghost use Rattle.sender_rules.specs.Connections.Records.{most_bytes, most_samples};

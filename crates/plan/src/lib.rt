@@ -1,5 +1,7 @@
 // A path told by records in bytes, and the one line that says what comes of it: `rate N`, `lost`, `unanswered`, `none R`,
 // or `bad AT`. The program qspath is this function between a read and a write.
+#![tactic(auto)]
+
 ghost use Rattle.std.specs.Prelude.{true, [], ◌∷◌, ◌++◌, ◌≡◌, ◌+◌, ◌*◌, ◌≤◌, ◌<◌, length, drop};
 ghost use Rattle.path_rules.specs.Hops.Rows.{most_routers};
 ghost use Rattle.hops.specs.Replies.{verdict_told, verdict_answer_told};

@@ -1,55 +1,58 @@
 // What the programs that run cases print with: text, numbers, bytes and refusals on standard output.
-use libc::STDOUT_FILENO;
-use refusals::Refusal;
+#![tactic(auto)]
 
-pub fn say(text: &[u8]) {
-    io::write_all(STDOUT_FILENO, text);
+use refusals::Refusal;
+use std::io;
+use std::io::Write;
+
+pub fn say(rt: &impl Print, text: &[u8]) -> io::Result<()> {
+    io::writer(rt).write_all(text)
 }
 
 // A number, with a space before it.
-pub fn number(n: u64) {
-    say(b" ");
-    io::print_decimal(STDOUT_FILENO, n);
+pub fn number(rt: &impl Print, n: u64) -> io::Result<()> {
+    print!(rt; " {n}")
 }
 
 // The end of a line with a number for the answer.
-pub fn answer(n: u64) {
-    number(n);
-    say(b"\n");
+pub fn answer(rt: &impl Print, n: u64) -> io::Result<()> {
+    number(rt, n)?;
+    say(rt, b"\n")
 }
 
 // The end of a line with a refusal.
-pub fn refused(why: Refusal) {
-    say(b" refused");
-    answer(why.number() as u64);
+pub fn refused(rt: &impl Print, why: Refusal) -> io::Result<()> {
+    say(rt, b" refused")?;
+    answer(rt, why.number() as u64)
 }
 
-fn byte(b: u8) {
-    say(b" ");
-    io::print_hex(STDOUT_FILENO, b as u64, 2);
+fn byte(rt: &impl Print, b: u8) -> io::Result<()> {
+    print!(rt; " {b:02x}")
 }
 
 // Each byte as two digits, with a space before it.
-pub fn bytes(part: &[u8]) {
+pub fn bytes(rt: &impl Print, part: &[u8]) -> io::Result<()> {
     let mut i = 0;
     while i < part.len() {
-        byte(part[i]);
+        byte(rt, part[i])?;
         i += 1;
     }
+    Ok(())
 }
 
 // Each number, with a space before it.
-pub fn numbers(row: &[u64]) {
+pub fn numbers(rt: &impl Print, row: &[u64]) -> io::Result<()> {
     let mut i = 0;
     while i < row.len() {
-        number(row[i]);
+        number(rt, row[i])?;
         i += 1;
     }
+    Ok(())
 }
 
 // The start of a line: the name of what it is about, and what it tells of it.
-pub fn start(name: &[u8], what: &[u8]) {
-    say(name);
-    say(b": ");
-    say(what);
+pub fn start(rt: &impl Print, name: &[u8], what: &[u8]) -> io::Result<()> {
+    say(rt, name)?;
+    say(rt, b": ")?;
+    say(rt, what)
 }

@@ -1,5 +1,7 @@
 // The fifteen steps of speed: the rate of a code, a code from bits a second, rounded down as a
 // router does and up as a sender does, and the Quick-Start window that a code allows.
+#![tactic(auto)]
+
 ghost use Rattle.std.specs.Prelude.{◌≡◌, ◌^◌, ◌≤◌, min};
 ghost use Rattle.wire_rules.specs.Rates.Steps.{top_code, rate_reply, rounded_down, rounded_up_reply};
 ghost use Rattle.wire_rules.specs.Rates.Window.{transport_in_range, segments_reply, bytes_reply};

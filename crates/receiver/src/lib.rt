@@ -1,4 +1,6 @@
 // A receiver: it reports the rate of a request back to the sender, in the eight bytes of a Quick-Start response.
+#![tactic(auto)]
+
 ghost use Rattle.std.specs.Prelude.{◌≡◌, length};
 ghost use Rattle.refusals.specs.Reply.{answer};
 ghost use Rattle.gateway_rules.specs.Receiver.Reports.{report_on, receiver_in_range, received, response_after, reaction_to, reaction_in};

@@ -1,10 +1,12 @@
 // The refusals of document 01's table, each by a name of its own, and its number; the plain answer of a
 // call; and the test that a number lies in its range, by which OutOfRange is given.
+#![tactic(auto)]
+
 ghost use Rattle.std.specs.Prelude.{◌≡◌};
 ghost use Rattle.common.specs.Choice.{within};
 ghost use Rattle.refusals.specs.Numbers.{number_of};
 
-#[derive(Drop)]
+#[derive(Clone, Copy)]
 pub enum Refusal {
     // The slice, the version, the header's length or the total length is wrong.
     Header,
@@ -64,7 +66,7 @@ impl Refusal {
 }
 
 // The answer of a call that has nothing else to say than that it was done, or its refusal.
-#[derive(Drop)]
+#[derive(Clone, Copy)]
 pub enum Answer {
     Done,
     Refused(Refusal),

@@ -1,6 +1,8 @@
 // A router: it lowers the IP TTL of a packet and writes the checksum anew, and where the packet carries a
 // Quick-Start request it approves the rate, lowers it or denies it. A silent router, document 01's name for one
 // that does not know Quick-Start, does the first part only.
+#![tactic(auto)]
+
 ghost use Rattle.std.specs.Prelude.{◌≡◌, ◌+◌, ◌<◌, ◌≤◌, true, ◌&&◌, length};
 ghost use Rattle.std.proofs.Math.Option.{some};
 ghost use Rattle.refusals.specs.Reply.{answer, leaves, done};

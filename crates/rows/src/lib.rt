@@ -1,5 +1,7 @@
 // A path lent as a row of hop records. One function goes through the row and spells it as the bytes of `hops`, hop by
 // hop; then the call on bytes answers. Every decision is taken on values, below the functions over `&[Hop]`.
+#![tactic(auto)]
+
 ghost use Rattle.std.specs.Prelude.{◌≡◌, ◌≤◌, ◌<◌};
 ghost use Rattle.std.proofs.lemmas.List.Edits.{sets};
 ghost use Rattle.refusals.specs.Reply.{leaves, done};

@@ -1,6 +1,8 @@
 // The samples of pipeACK (RFC 7661): the bytes that were acknowledged in a round trip, and when. The call takes the
 // connection's record by value and hands it back beside its answer; a refused call hands it back unchanged. It is allowed
 // in every state of a request and leaves it alone.
+#![tactic(auto)]
+
 ghost use Rattle.std.specs.Prelude.{◌≡◌, ◌≤◌};
 ghost use Rattle.refusals.specs.Replies.{answer_told};
 ghost use Rattle.sender_rules.specs.Connections.Records.{most_samples};

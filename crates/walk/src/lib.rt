@@ -1,4 +1,6 @@
 // The walk of an IPv4 header's options area: where its Quick-Start option stands, if it has one.
+#![tactic(auto)]
+
 ghost use Rattle.std.specs.Prelude.{◌≡◌, ◌<◌, length};
 ghost use Rattle.wire_rules.specs.Walk.Walks.{look, walk};
 ghost use Rattle.walk.specs.Parts.{place_of, is_found, offset_of};
