@@ -1,6 +1,6 @@
 -- Laws of rounding by leading zeros, and of rounding up by rounding down. Assumes nothing.
 use Prim.Native.Nat.{ℕ, zero, suc, ◌-◌, ◌*◌, ◌/◌, ◌^◌, ◌≤◌, ◌<◌, min, zero-le}
-use mathlib.Core.Logic.{◌⊎◌, ⊎_elim}
+use mathlib.Core.Logic.{⊎_elim}
 use mathlib.Core.Path.{◌≡◌, subst}
 use native.Mathlib.Nat.{le_refl, le_trans, lt_irrefl, lt_of_le_of_lt, lt_of_not-le, eq-zero-or-pos, div-le_self, mul-le-mul_left, le-div_iff_mul-le, div-lt_iff_lt-mul, min-le_left, min-le_right}
 use native.Mathlib.Omega.{arith}
