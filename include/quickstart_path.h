@@ -6,14 +6,14 @@
  * summary of the path in three numbers, and the run of a packet from router to router to the
  * receiver and, with the receiver's response, back to the sender.
  *
- * The functions stand in an archive of their own, which `rt staticlib rows` writes beside libgateway.a:
+ * The functions stand in an archive of their own, which `rt lib` writes in crates/rows:
  *
- *     cc planner.c -Iinclude -Ltarget/staticlib -lrows
+ *     cc planner.c -Iinclude -Lcrates/rows/out -lrows
  *
  * It needs nothing of libgateway.a. A program that calls functions of both headers links both, in either
  * order: the archives define no name in common but what is private to each.
  *
- *     cc both.c -Iinclude -Ltarget/staticlib -lrows -lgateway
+ *     cc both.c -Iinclude -Lcrates/rows/out -lrows -Lcrates/gateway/out -lgateway
  *
  * An example: three routers, of which the second does not know Quick-Start. `p` holds the packet that
  * the sender would send, `n` bytes and at most 1500, with IP TTL `ttl` and a request for `code` with

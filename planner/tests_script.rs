@@ -121,6 +121,8 @@ fn copy_tree(place: &Place, tree: &Path) -> std::io::Result<()> {
     let _ = fs::remove_dir_all(tree);
     fs::create_dir_all(tree.join("planner"))?;
     fs::create_dir_all(tree.join("stub"))?;
+    fs::create_dir_all(tree.join("crates/qspath"))?;
+    fs::create_dir_all(tree.join("crates/gateway"))?;
     for entry in fs::read_dir(place.root.join("planner"))? {
         let entry = entry?;
         let name = entry.file_name();
@@ -128,11 +130,11 @@ fn copy_tree(place: &Place, tree: &Path) -> std::io::Result<()> {
             fs::copy(entry.path(), tree.join("planner").join(name))?;
         }
     }
-    let (program, archive) = (place.program.display(), place.archive.display());
+    let (root, program, archive) = (tree.display(), place.program.display(), place.archive.display());
     let body = format!(
-        "echo \"$PWD $*\" >>stub/log\necho built\ncase $* in\n\
-         'check qspath') mkdir -p target/bin; cp '{program}' target/bin/qspath ;;\n\
-         'staticlib gateway') mkdir -p target/staticlib; cp '{archive}' target/staticlib/libgateway.a ;;\n\
+        "echo \"$PWD $*\" >>'{root}/stub/log'\necho built\ncase \"${{PWD##*/}} $*\" in\n\
+         'qspath run') mkdir -p out; cp '{program}' out/qspath ;;\n\
+         'gateway lib') mkdir -p out; cp '{archive}' out/libgateway.a ;;\n\
          *) exit 1 ;;\nesac\n"
     );
     script(&tree.join("stub/rt"), &body);
@@ -158,8 +160,8 @@ fn first_run(report: &mut Report, place: &Place) {
     let input = b"request rate=5\nrouter ceiling=3\nreceiver";
     let found = ended(&mut in_tree(&tree, &["-"]), input);
     let says = |words: &str| found.stderr.contains(words);
-    let said = says("target/bin/qspath is missing: running 'rt check qspath'")
-        && says("target/staticlib/libgateway.a is missing: running 'rt staticlib gateway'")
+    let said = says("crates/qspath/out/qspath is missing: running 'rt run' in crates/qspath")
+        && says("crates/gateway/out/libgateway.a is missing: running 'rt lib' in crates/gateway")
         && says("takes some minutes the first time");
     report.test("qsplan, first run: what is missing is said", said);
     same(
@@ -170,8 +172,8 @@ fn first_run(report: &mut Report, place: &Place) {
     );
     let log = fs::read_to_string(tree.join("stub/log")).unwrap_or_default();
     let root = tree.display();
-    let wanted = format!("{root} check qspath\n{root} staticlib gateway\n");
-    same(report, "qsplan, first run: rt is run at the root", log, wanted.clone());
+    let wanted = format!("{root}/crates/qspath run\n{root}/crates/gateway lib\n");
+    same(report, "qsplan, first run: rt is run in the crates' folders", log, wanted.clone());
     let built =
         || fs::metadata(tree.join("target/planner/qsplan-tool")).and_then(|file| file.modified()).ok();
     let before = built();
@@ -208,9 +210,9 @@ fn failed_builds(report: &mut Report, place: &Place, tree: &Path, input: &[u8]) 
         found.status == status(FAULT) && found.stdout.is_empty(),
     );
     script(&tree.join("stub/rt"), "exit 1\n");
-    let _ = fs::remove_file(tree.join("target/bin/qspath"));
+    let _ = fs::remove_file(tree.join("crates/qspath/out/qspath"));
     let found = ended(&mut in_tree(tree, &["-"]), input);
-    let holds = found.status == status(FAULT) && found.stderr.contains("'rt check qspath' failed");
+    let holds = found.status == status(FAULT) && found.stderr.contains("'rt run' in crates/qspath failed");
     report.test("qsplan, rt fails: said", holds && found.stdout.is_empty());
 }
 

@@ -13,6 +13,7 @@ use printing::{bytes, number, numbers, say, start};
 use receiver::Received;
 use refusals::Refusal;
 use router::Routed;
+use std::io;
 
 // The packet that document 01 works out.
 const DOCUMENT_01: [u8; 28] =
@@ -97,313 +98,365 @@ fn mixed(at: usize, byte: u8) -> [u8; 28] {
 }
 
 // The end of a line with a part's bytes.
-fn line(part: &[u8]) {
-    bytes(part);
-    say(b"\n");
+fn line(rt: &impl Print, part: &[u8]) -> io::Result<()> {
+    bytes(rt, part)?;
+    say(rt, b"\n")?;
+    Ok(())
 }
 
-fn show(name: &[u8], packet: &[u8]) {
-    start(name, b"packet");
-    line(packet);
+fn show(rt: &impl Print, name: &[u8], packet: &[u8]) -> io::Result<()> {
+    start(rt, name, b"packet")?;
+    line(rt, packet)?;
+    Ok(())
 }
 
-fn refused(why: Refusal) {
-    say(b": refused");
-    number(why.number() as u64);
-    say(b",");
+fn refused(rt: &impl Print, why: Refusal) -> io::Result<()> {
+    say(rt, b": refused")?;
+    number(rt, why.number() as u64)?;
+    say(rt, b",")?;
+    Ok(())
 }
 
-fn routed(answer: Routed) {
+fn routed(rt: &impl Print, answer: Routed) -> io::Result<()> {
     match answer {
-        Routed::Done => say(b": done,"),
-        Routed::Refused(why) => refused(why),
+        Routed::Done => say(rt, b": done,"),
+        Routed::Refused(why) => refused(rt, why),
     }
 }
 
-fn router(name: &[u8], packet: &mut [u8], ceiling: u32, fresh: u32) {
-    start(name, b"router");
-    number(ceiling as u64);
-    number(fresh as u64);
-    routed(router::router(packet, ceiling, fresh));
-    line(packet);
+fn router(
+    rt: &impl Print,
+    name: &[u8],
+    packet: &mut [u8],
+    ceiling: u32,
+    fresh: u32,
+) -> io::Result<()> {
+    start(rt, name, b"router")?;
+    number(rt, ceiling as u64)?;
+    number(rt, fresh as u64)?;
+    routed(rt, router::router(packet, ceiling, fresh))?;
+    line(rt, packet)?;
+    Ok(())
 }
 
-fn silent_router(name: &[u8], packet: &mut [u8]) {
-    start(name, b"silent router");
-    routed(router::silent_router(packet));
-    line(packet);
+fn silent_router(rt: &impl Print, name: &[u8], packet: &mut [u8]) -> io::Result<()> {
+    start(rt, name, b"silent router")?;
+    routed(rt, router::silent_router(packet))?;
+    line(rt, packet)?;
+    Ok(())
 }
 
 // A ledger's record and its slots.
-fn link(row: &[u64], ledger: Ledger) {
-    say(b" tick");
-    number(ledger.tick);
-    say(b" allowance");
-    number(ledger.allowance);
-    say(b" slots");
-    numbers(row);
-    say(b",");
+fn link(rt: &impl Print, row: &[u64], ledger: Ledger) -> io::Result<()> {
+    say(rt, b" tick")?;
+    number(rt, ledger.tick)?;
+    say(rt, b" allowance")?;
+    number(rt, ledger.allowance)?;
+    say(rt, b" slots")?;
+    numbers(rt, row)?;
+    say(rt, b",")?;
+    Ok(())
 }
 
 // The line of a router with a ledger after its start. The record is handed back as the call left it.
 fn by_ledger(
+    rt: &impl Print,
     packet: &mut [u8],
     ceiling: u32,
     fresh: u32,
     row: &mut [u64],
     ledger: Ledger,
     tick: u64,
-) -> Ledger {
-    number(ceiling as u64);
-    number(fresh as u64);
-    say(b" at");
-    number(tick);
+) -> io::Result<Ledger> {
+    number(rt, ceiling as u64)?;
+    number(rt, fresh as u64)?;
+    say(rt, b" at")?;
+    number(rt, tick)?;
     let reply = router::router_with_ledger(packet, ceiling, fresh, row, ledger, tick);
     let left = reply.ledger;
     let answer = reply.answer;
-    routed(answer);
-    link(row, left);
-    line(packet);
-    left
+    routed(rt, answer)?;
+    link(rt, row, left)?;
+    line(rt, packet)?;
+    Ok(left)
 }
 
 // A router with a ceiling of 15 and a ledger.
-fn ledger_router(name: &[u8], packet: [u8; 28], row: &mut [u64], ledger: Ledger, tick: u64) {
+fn ledger_router(
+    rt: &impl Print,
+    name: &[u8],
+    packet: [u8; 28],
+    row: &mut [u64],
+    ledger: Ledger,
+    tick: u64,
+) -> io::Result<()> {
     let mut p = packet;
-    start(name, b"ledger router");
-    by_ledger(&mut p, 15, ONES, row, ledger, tick);
+    start(rt, name, b"ledger router")?;
+    by_ledger(rt, &mut p, 15, ONES, row, ledger, tick)?;
+    Ok(())
 }
 
-fn receiver_into(name: &[u8], packet: &[u8], ceiling: u32, response: &mut [u8]) {
-    start(name, b"receiver");
-    number(ceiling as u64);
+fn receiver_into(
+    rt: &impl Print,
+    name: &[u8],
+    packet: &[u8],
+    ceiling: u32,
+    response: &mut [u8],
+) -> io::Result<()> {
+    start(rt, name, b"receiver")?;
+    number(rt, ceiling as u64)?;
     match receiver::receiver(packet, ceiling, response) {
-        Received::Answered => say(b": answered,"),
-        Received::Unanswered => say(b": unanswered,"),
-        Received::Refused(why) => refused(why),
+        Received::Answered => say(rt, b": answered,")?,
+        Received::Unanswered => say(rt, b": unanswered,")?,
+        Received::Refused(why) => refused(rt, why)?,
     }
-    line(response);
+    line(rt, response)?;
+    Ok(())
 }
 
 // A receiver with a buffer of eight bytes, which hold something before.
-fn receiver(name: &[u8], packet: &[u8], ceiling: u32) {
+fn receiver(rt: &impl Print, name: &[u8], packet: &[u8], ceiling: u32) -> io::Result<()> {
     let mut response = [0xeeu8; 8];
-    receiver_into(name, packet, ceiling, &mut response);
+    receiver_into(rt, name, packet, ceiling, &mut response)?;
+    Ok(())
 }
 
 // A router on a packet by value, which is handed back as the call left it.
-fn route(name: &[u8], packet: [u8; 28], ceiling: u32, fresh: u32) -> [u8; 28] {
+fn route(
+    rt: &impl Print,
+    name: &[u8],
+    packet: [u8; 28],
+    ceiling: u32,
+    fresh: u32,
+) -> io::Result<[u8; 28]> {
     let mut p = packet;
-    router(name, &mut p, ceiling, fresh);
-    p
+    router(rt, name, &mut p, ceiling, fresh)?;
+    Ok(p)
 }
 
 // A silent router on a packet by value, likewise.
-fn pass(name: &[u8], packet: [u8; 28]) -> [u8; 28] {
+fn pass(rt: &impl Print, name: &[u8], packet: [u8; 28]) -> io::Result<[u8; 28]> {
     let mut p = packet;
-    silent_router(name, &mut p);
-    p
+    silent_router(rt, name, &mut p)?;
+    Ok(p)
 }
 
 // A receiver of a packet by value.
-fn receive(name: &[u8], packet: [u8; 28], ceiling: u32) {
-    receiver(name, &packet, ceiling);
+fn receive(rt: &impl Print, name: &[u8], packet: [u8; 28], ceiling: u32) -> io::Result<()> {
+    receiver(rt, name, &packet, ceiling)?;
+    Ok(())
 }
 
 // The three routers and the receiver, each on the packet as it came.
-fn all(name: &[u8], packet: [u8; 28]) {
-    route(name, packet, 3, ONES);
+fn all(rt: &impl Print, name: &[u8], packet: [u8; 28]) -> io::Result<()> {
+    route(rt, name, packet, 3, ONES)?;
     let mut row = [0u64; 2];
     let ledger = Ledger {
         tick: 8,
         allowance: 1_000_000,
     };
-    ledger_router(name, packet, &mut row, ledger, 9);
-    pass(name, packet);
-    receive(name, packet, 15);
+    ledger_router(rt, name, packet, &mut row, ledger, 9)?;
+    pass(rt, name, packet)?;
+    receive(rt, name, packet, 15)?;
+    Ok(())
 }
 
-fn document_01() {
+fn document_01(rt: &impl Print) -> io::Result<()> {
     let name: &[u8] = b"document 01";
     let came = DOCUMENT_01;
-    show(name, &came);
-    let lowered = route(name, came, 3, ONES);
-    receive(name, lowered, 15);
-    let passed = pass(name, came);
-    receive(name, passed, 15);
+    show(rt, name, &came)?;
+    let lowered = route(rt, name, came, 3, ONES)?;
+    receive(rt, name, lowered, 15)?;
+    let passed = pass(rt, name, came)?;
+    receive(rt, name, passed, 15)?;
+    Ok(())
 }
 
 // One packet on a way of several routers: lowered by none, by steps, passed by a silent one, and denied in the end.
-fn in_turn() {
+fn in_turn(rt: &impl Print) -> io::Result<()> {
     let name: &[u8] = b"in turn";
     let mut p = mixed(RATE, 15);
-    show(name, &p);
-    p = route(name, p, 15, ONES);
-    p = route(name, p, 9, FIELDS);
-    p = pass(name, p);
-    p = route(name, p, 8, ONES);
-    p = route(name, p, 4, FIELDS);
-    p = route(name, p, 6, ONES);
-    receive(name, p, 3);
-    p = route(name, p, 0, ONES);
-    receive(name, p, 15);
-    route(name, p, 7, ONES);
+    show(rt, name, &p)?;
+    p = route(rt, name, p, 15, ONES)?;
+    p = route(rt, name, p, 9, FIELDS)?;
+    p = pass(rt, name, p)?;
+    p = route(rt, name, p, 8, ONES)?;
+    p = route(rt, name, p, 4, FIELDS)?;
+    p = route(rt, name, p, 6, ONES)?;
+    receive(rt, name, p, 3)?;
+    p = route(rt, name, p, 0, ONES)?;
+    receive(rt, name, p, 15)?;
+    route(rt, name, p, 7, ONES)?;
+    Ok(())
 }
 
-fn ttls() {
+fn ttls(rt: &impl Print) -> io::Result<()> {
     let name: &[u8] = b"ttl 2";
     let came = plain(TTL, 2);
-    let routed = route(name, came, 15, 0);
-    route(name, routed, 15, 0);
-    receive(name, routed, 15);
-    let passed = pass(name, came);
-    pass(name, passed);
-    all(b"ttl 1", plain(TTL, 1));
-    all(b"ttl 0", plain(TTL, 0));
+    let routed = route(rt, name, came, 15, 0)?;
+    route(rt, name, routed, 15, 0)?;
+    receive(rt, name, routed, 15)?;
+    let passed = pass(rt, name, came)?;
+    pass(rt, name, passed)?;
+    all(rt, b"ttl 1", plain(TTL, 1))?;
+    all(rt, b"ttl 0", plain(TTL, 0))?;
+    Ok(())
 }
 
-fn ceilings() {
+fn ceilings(rt: &impl Print) -> io::Result<()> {
     let name: &[u8] = b"mixed, rate 5";
     let p = MIXED;
-    show(name, &p);
-    route(name, p, 5, ONES);
-    route(name, p, 15, ONES);
-    route(name, p, 4, ONES);
-    route(name, p, 1, FIELDS);
-    route(name, p, 0, ONES);
-    receive(name, p, 5);
-    receive(name, p, 15);
-    receive(name, p, 4);
-    receive(name, p, 0);
+    show(rt, name, &p)?;
+    route(rt, name, p, 5, ONES)?;
+    route(rt, name, p, 15, ONES)?;
+    route(rt, name, p, 4, ONES)?;
+    route(rt, name, p, 1, FIELDS)?;
+    route(rt, name, p, 0, ONES)?;
+    receive(rt, name, p, 5)?;
+    receive(rt, name, p, 15)?;
+    receive(rt, name, p, 4)?;
+    receive(rt, name, p, 0)?;
+    Ok(())
 }
 
-fn end_rates() {
+fn end_rates(rt: &impl Print) -> io::Result<()> {
     let top: &[u8] = b"mixed, rate 15";
     let p = mixed(RATE, 15);
-    route(top, p, 14, ONES);
-    route(top, p, 1, ONES);
+    route(rt, top, p, 14, ONES)?;
+    route(rt, top, p, 1, ONES)?;
     let low: &[u8] = b"mixed, rate 1";
     let q = mixed(RATE, 1);
-    route(low, q, 1, ONES);
-    route(low, q, 0, ONES);
+    route(rt, low, q, 1, ONES)?;
+    route(rt, low, q, 0, ONES)?;
     let none: &[u8] = b"mixed, rate 0";
     let r = mixed(RATE, 0);
-    all(none, r);
-    route(none, r, 0, ONES);
+    all(rt, none, r)?;
+    route(rt, none, r, 0, ONES)?;
+    Ok(())
 }
 
-fn no_requests() {
+fn no_requests(rt: &impl Print) -> io::Result<()> {
     let report: &[u8] = b"report";
     let p = mixed(RATE, 0x85);
-    all(report, p);
-    route(report, p, 0, ONES);
+    all(rt, report, p)?;
+    route(rt, report, p, 0, ONES)?;
     let other: &[u8] = b"function 3";
     let q = mixed(RATE, 0x35);
-    route(other, q, 3, ONES);
-    receive(other, q, 15);
-    all(b"no option", mixed(OPTION_TYPE, 0));
+    route(rt, other, q, 3, ONES)?;
+    receive(rt, other, q, 15)?;
+    all(rt, b"no option", mixed(OPTION_TYPE, 0))?;
+    Ok(())
 }
 
 // A QS TTL of 0 is no denial: a random start reaches it.
-fn qs_ttls() {
+fn qs_ttls(rt: &impl Print) -> io::Result<()> {
     let name: &[u8] = b"qs ttl 0";
     let p = plain(QS_TTL, 0);
-    receive(name, p, 15);
-    let q = route(name, p, 3, ONES);
-    receive(name, q, 15);
+    receive(rt, name, p, 15)?;
+    let q = route(rt, name, p, 3, ONES)?;
+    receive(rt, name, q, 15)?;
     let one: &[u8] = b"qs ttl 1";
-    let r = route(one, plain(QS_TTL, 1), 3, ONES);
-    route(one, r, 3, ONES);
+    let r = route(rt, one, plain(QS_TTL, 1), 3, ONES)?;
+    route(rt, one, r, 3, ONES)?;
+    Ok(())
 }
 
-fn long_header() {
+fn long_header(rt: &impl Print) -> io::Result<()> {
     let name: &[u8] = b"long header";
     let mut p = LONG;
-    show(name, &p);
-    receiver(name, &p, 15);
-    router(name, &mut p, 4, FIELDS);
-    silent_router(name, &mut p);
-    router(name, &mut p, 0, FIELDS);
+    show(rt, name, &p)?;
+    receiver(rt, name, &p, 15)?;
+    router(rt, name, &mut p, 4, FIELDS)?;
+    silent_router(rt, name, &mut p)?;
+    router(rt, name, &mut p, 0, FIELDS)?;
+    Ok(())
 }
 
-fn two_requests() {
+fn two_requests(rt: &impl Print) -> io::Result<()> {
     let name: &[u8] = b"two requests";
     let mut p = LONG;
     p[10] = 0x32;
     p[OPTION_TYPE] = 0x19;
-    router(name, &mut p, 4, FIELDS);
-    receiver(name, &p, 15);
-    silent_router(name, &mut p);
+    router(rt, name, &mut p, 4, FIELDS)?;
+    receiver(rt, name, &p, 15)?;
+    silent_router(rt, name, &mut p)?;
+    Ok(())
 }
 
-fn faults() {
-    all(b"total length 29", plain(3, 29));
+fn faults(rt: &impl Print) -> io::Result<()> {
+    all(rt, b"total length 29", plain(3, 29))?;
     let mut p = DOCUMENT_01;
     p[11] = 0x53;
-    all(b"wrong checksum", p);
-    all(b"option length 0", plain(OPTION_LENGTH, 0));
-    all(b"option length 7", plain(OPTION_LENGTH, 7));
+    all(rt, b"wrong checksum", p)?;
+    all(rt, b"option length 0", plain(OPTION_LENGTH, 0))?;
+    all(rt, b"option length 7", plain(OPTION_LENGTH, 7))?;
+    Ok(())
 }
 
 // Two faults in a call: the first in the order of the tests is named.
-fn two_faults() {
+fn two_faults(rt: &impl Print) -> io::Result<()> {
     let mut p = DOCUMENT_01;
     p[0] = 0x67;
-    route(b"version 6, wrong checksum", p, 3, ONES);
+    route(rt, b"version 6, wrong checksum", p, 3, ONES)?;
     let seven: &[u8] = b"version 6, ceiling 16";
-    route(seven, p, 16, ONES);
-    receive(seven, p, 16);
+    route(rt, seven, p, 16, ONES)?;
+    receive(rt, seven, p, 16)?;
     let two: &[u8] = b"wrong checksum, option length 0, ttl 1";
     p = plain(TTL, 1);
     p[OPTION_LENGTH] = 0;
-    route(two, p, 3, ONES);
-    pass(two, p);
+    route(rt, two, p, 3, ONES)?;
+    pass(rt, two, p)?;
+    Ok(())
 }
 
-fn options_before_ttl() {
+fn options_before_ttl(rt: &impl Print) -> io::Result<()> {
     let three: &[u8] = b"option length 0, ttl 1";
     let p = with(plain(TTL, 1), OPTION_LENGTH, 0);
-    route(three, p, 3, ONES);
-    pass(three, p);
-    receive(three, p, 15);
+    route(rt, three, p, 3, ONES)?;
+    pass(rt, three, p)?;
+    receive(rt, three, p, 15)?;
     let five: &[u8] = b"option length 7, ttl 1";
     let q = with(p, OPTION_LENGTH, 7);
-    route(five, q, 3, ONES);
-    pass(five, q);
+    route(rt, five, q, 3, ONES)?;
+    pass(rt, five, q)?;
+    Ok(())
 }
 
-fn out_of_range() {
+fn out_of_range(rt: &impl Print) -> io::Result<()> {
     let name: &[u8] = b"out of range";
     let p = DOCUMENT_01;
-    route(name, p, 16, 0);
-    route(name, p, 15, ONES + 1);
-    route(name, p, u32::MAX, u32::MAX);
-    receive(name, p, 16);
+    route(rt, name, p, 16, 0)?;
+    route(rt, name, p, 15, ONES + 1)?;
+    route(rt, name, p, u32::MAX, u32::MAX)?;
+    receive(rt, name, p, 16)?;
     let mut seven = [0xeeu8; 7];
-    receiver_into(name, &p, 15, &mut seven);
+    receiver_into(rt, name, &p, 15, &mut seven)?;
     let mut nine = [0xeeu8; 9];
-    receiver_into(name, &p, 15, &mut nine);
+    receiver_into(rt, name, &p, 15, &mut nine)?;
+    Ok(())
 }
 
 // A router with a ledger whose row has so many slots, at the ends of their range and beyond them.
-fn rows() {
+fn rows(rt: &impl Print) -> io::Result<()> {
     let p = DOCUMENT_01;
     let ledger = Ledger {
         tick: 8,
         allowance: MOST,
     };
     let mut most = [7u64; 64];
-    ledger_router(b"64 slots", p, &mut most, ledger, 9);
+    ledger_router(rt, b"64 slots", p, &mut most, ledger, 9)?;
     let mut long = [7u64; 65];
-    ledger_router(b"65 slots", p, &mut long, ledger, 9);
+    ledger_router(rt, b"65 slots", p, &mut long, ledger, 9)?;
     let mut one = [7u64; 1];
-    ledger_router(b"one slot", p, &mut one, ledger, 9);
+    ledger_router(rt, b"one slot", p, &mut one, ledger, 9)?;
     let mut none = [7u64; 0];
-    ledger_router(b"no slot", p, &mut none, ledger, 9);
+    ledger_router(rt, b"no slot", p, &mut none, ledger, 9)?;
+    Ok(())
 }
 
 // A router with a ledger at tick 8, on the row as it came.
 fn lent(
+    rt: &impl Print,
     name: &[u8],
     packet: [u8; 28],
     slots: [u64; 4],
@@ -411,152 +464,168 @@ fn lent(
     ceiling: u32,
     fresh: u32,
     tick: u64,
-) {
+) -> io::Result<()> {
     let mut p = packet;
     let mut row = slots;
-    start(name, b"ledger router");
+    start(rt, name, b"ledger router")?;
     by_ledger(
+        rt,
         &mut p,
         ceiling,
         fresh,
         &mut row,
         Ledger { tick: 8, allowance },
         tick,
-    );
+    )?;
+    Ok(())
 }
 
 // 7 comes before the packet's faults.
-fn links_out_of_range() {
+fn links_out_of_range(rt: &impl Print) -> io::Result<()> {
     let name: &[u8] = b"version 6, link out of range";
     let row = [7u64; 4];
     let mut p = DOCUMENT_01;
     let over: &[u8] = b"link out of range";
-    lent(over, p, row, MOST + 1, 15, ONES, 9);
+    lent(rt, over, p, row, MOST + 1, 15, ONES, 9)?;
     p[0] = 0x67;
-    lent(name, p, row, MOST + 1, 15, ONES, 9);
-    lent(name, p, row, MOST, 16, ONES, 9);
-    lent(name, p, row, MOST, 15, ONES + 1, 9);
+    lent(rt, name, p, row, MOST + 1, 15, ONES, 9)?;
+    lent(rt, name, p, row, MOST, 16, ONES, 9)?;
+    lent(rt, name, p, row, MOST, 15, ONES + 1, 9)?;
+    Ok(())
 }
 
 // 8 comes after the packet's faults and before 9, and only where the ledger is asked.
-fn over_allowance() {
+fn over_allowance(rt: &impl Print) -> io::Result<()> {
     let name: &[u8] = b"over the allowance";
     let p = DOCUMENT_01;
     let row = [5_000_000, 120_001, 0, 0];
-    lent(name, p, row, ALLOWANCE, 15, ONES, 8);
-    lent(name, p, row, ALLOWANCE, 15, ONES, 12);
-    lent(name, p, row, ALLOWANCE, 15, ONES, 7);
-    lent(name, p, row, ALLOWANCE, 0, ONES, 7);
+    lent(rt, name, p, row, ALLOWANCE, 15, ONES, 8)?;
+    lent(rt, name, p, row, ALLOWANCE, 15, ONES, 12)?;
+    lent(rt, name, p, row, ALLOWANCE, 15, ONES, 7)?;
+    lent(rt, name, p, row, ALLOWANCE, 0, ONES, 7)?;
     let none: &[u8] = b"rate 0, over the allowance";
-    lent(none, plain(RATE, 0), row, ALLOWANCE, 15, ONES, 7);
+    lent(rt, none, plain(RATE, 0), row, ALLOWANCE, 15, ONES, 7)?;
     let six: &[u8] = b"ttl 1, over the allowance";
-    lent(six, plain(TTL, 1), row, ALLOWANCE, 15, ONES, 7);
+    lent(rt, six, plain(TTL, 1), row, ALLOWANCE, 15, ONES, 7)?;
     let wraps: &[u8] = b"sum of 2^64";
-    lent(wraps, p, [HALF, HALF, 0, 0], ALLOWANCE, 15, ONES, 8);
+    lent(rt, wraps, p, [HALF, HALF, 0, 0], ALLOWANCE, 15, ONES, 8)?;
+    Ok(())
 }
 
 // 9 comes after the packet's faults too, and only where the ledger is asked. A row whose total is the allowance
 // is no fault: it has no room, and here none after a tick either.
-fn tick_before() {
+fn tick_before(rt: &impl Print) -> io::Result<()> {
     let name: &[u8] = b"at the allowance";
     let p = DOCUMENT_01;
     let row = [5_060_000, 60_000, 0, 0];
-    lent(name, p, row, ALLOWANCE, 15, ONES, 8);
-    lent(name, p, row, ALLOWANCE, 15, ONES, 9);
-    lent(name, p, row, ALLOWANCE, 15, ONES, 7);
-    lent(name, p, row, ALLOWANCE, 0, ONES, 7);
+    lent(rt, name, p, row, ALLOWANCE, 15, ONES, 8)?;
+    lent(rt, name, p, row, ALLOWANCE, 15, ONES, 9)?;
+    lent(rt, name, p, row, ALLOWANCE, 15, ONES, 7)?;
+    lent(rt, name, p, row, ALLOWANCE, 0, ONES, 7)?;
     let six: &[u8] = b"ttl 1, at the allowance";
-    lent(six, plain(TTL, 1), row, ALLOWANCE, 15, ONES, 7);
+    lent(rt, six, plain(TTL, 1), row, ALLOWANCE, 15, ONES, 7)?;
+    Ok(())
 }
 
 // A packet with this rate to the shared ledger's router.
-fn asks(row: &mut [u64; 4], ledger: Ledger, rate: u8, ceiling: u32, tick: u64) -> Ledger {
+fn asks(
+    rt: &impl Print,
+    row: &mut [u64; 4],
+    ledger: Ledger,
+    rate: u8,
+    ceiling: u32,
+    tick: u64,
+) -> io::Result<Ledger> {
     let mut p = mixed(RATE, rate);
-    say(b"shared ledger, rate");
-    number(rate as u64);
-    say(b": ledger router");
-    by_ledger(&mut p, ceiling, FIELDS, row, ledger, tick)
+    say(rt, b"shared ledger, rate")?;
+    number(rt, rate as u64)?;
+    say(rt, b": ledger router")?;
+    by_ledger(rt, &mut p, ceiling, FIELDS, row, ledger, tick)
 }
 
 // A packet without a request, or with a fault, to the same router.
 fn does_not_ask(
+    rt: &impl Print,
     name: &[u8],
     packet: [u8; 28],
     row: &mut [u64; 4],
     ledger: Ledger,
     tick: u64,
-) -> Ledger {
+) -> io::Result<Ledger> {
     let mut p = packet;
-    start(name, b"ledger router");
-    by_ledger(&mut p, 15, FIELDS, row, ledger, tick)
+    start(rt, name, b"ledger router")?;
+    by_ledger(rt, &mut p, 15, FIELDS, row, ledger, tick)
 }
 
 // Grants in full and for less. A router that would ask for the rate would charge more for the second packet.
-fn filling(row: &mut [u64; 4], fresh: Ledger) -> Ledger {
-    let mut ledger = asks(row, fresh, 6, 15, 8);
-    ledger = asks(row, ledger, 15, 5, 8);
-    asks(row, ledger, 15, 15, 9)
+fn filling(rt: &impl Print, row: &mut [u64; 4], fresh: Ledger) -> io::Result<Ledger> {
+    let mut ledger = asks(rt, row, fresh, 6, 15, 8)?;
+    ledger = asks(rt, row, ledger, 15, 5, 8)?;
+    asks(rt, row, ledger, 15, 15, 9)
 }
 
 // No room is left: packets are denied, and the tick moves on all the same, but not where the ledger is not asked.
-fn full(row: &mut [u64; 4], filled: Ledger) -> Ledger {
-    let mut ledger = asks(row, filled, 3, 15, 9);
-    ledger = asks(row, ledger, 1, 1, 11);
-    ledger = asks(row, ledger, 0, 15, 50);
-    ledger = asks(row, ledger, 5, 0, 50);
+fn full(rt: &impl Print, row: &mut [u64; 4], filled: Ledger) -> io::Result<Ledger> {
+    let mut ledger = asks(rt, row, filled, 3, 15, 9)?;
+    ledger = asks(rt, row, ledger, 1, 1, 11)?;
+    ledger = asks(rt, row, ledger, 0, 15, 50)?;
+    ledger = asks(rt, row, ledger, 5, 0, 50)?;
     let name: &[u8] = b"shared ledger, no option";
-    does_not_ask(name, mixed(OPTION_TYPE, 0), row, ledger, 3)
+    does_not_ask(rt, name, mixed(OPTION_TYPE, 0), row, ledger, 3)
 }
 
 // Grants fall out of the row as it moves on. A tick before the stored one is refused, and so is an IP TTL of 1.
-fn freeing(row: &mut [u64; 4], filled: Ledger) -> Ledger {
-    let mut ledger = asks(row, filled, 15, 15, 12);
-    ledger = asks(row, ledger, 7, 4, 12);
-    ledger = asks(row, ledger, 5, 15, 13);
-    ledger = asks(row, ledger, 1, 15, 12);
+fn freeing(rt: &impl Print, row: &mut [u64; 4], filled: Ledger) -> io::Result<Ledger> {
+    let mut ledger = asks(rt, row, filled, 15, 15, 12)?;
+    ledger = asks(rt, row, ledger, 7, 4, 12)?;
+    ledger = asks(rt, row, ledger, 5, 15, 13)?;
+    ledger = asks(rt, row, ledger, 1, 15, 12)?;
     let name: &[u8] = b"shared ledger, ttl 1";
-    ledger = does_not_ask(name, mixed(TTL, 1), row, ledger, 14);
-    asks(row, ledger, 15, 15, 13)
+    ledger = does_not_ask(rt, name, mixed(TTL, 1), row, ledger, 14)?;
+    asks(rt, row, ledger, 15, 15, 13)
 }
 
 // All grants have fallen out of the row.
-fn freed(row: &mut [u64; 4], freeing: Ledger) {
-    let mut ledger = asks(row, freeing, 15, 15, 100);
-    ledger = asks(row, ledger, 2, 15, 101);
+fn freed(rt: &impl Print, row: &mut [u64; 4], freeing: Ledger) -> io::Result<()> {
+    let mut ledger = asks(rt, row, freeing, 15, 15, 100)?;
+    ledger = asks(rt, row, ledger, 2, 15, 101)?;
     let name: &[u8] = b"shared ledger, option length 0";
-    ledger = does_not_ask(name, mixed(OPTION_LENGTH, 0), row, ledger, 104);
-    asks(row, ledger, 2, 15, 104);
+    ledger = does_not_ask(rt, name, mixed(OPTION_LENGTH, 0), row, ledger, 104)?;
+    asks(rt, row, ledger, 2, 15, 104)?;
+    Ok(())
 }
 
-fn shared_ledger() {
+fn shared_ledger(rt: &impl Print) -> io::Result<()> {
     let mut row = [0u64; 4];
     let mut ledger = Ledger {
         tick: 8,
         allowance: ALLOWANCE,
     };
-    ledger = filling(&mut row, ledger);
-    ledger = full(&mut row, ledger);
-    ledger = freeing(&mut row, ledger);
-    freed(&mut row, ledger);
+    ledger = filling(rt, &mut row, ledger)?;
+    ledger = full(rt, &mut row, ledger)?;
+    ledger = freeing(rt, &mut row, ledger)?;
+    freed(rt, &mut row, ledger)?;
+    Ok(())
 }
 
-fn main() {
-    document_01();
-    in_turn();
-    ttls();
-    ceilings();
-    end_rates();
-    no_requests();
-    qs_ttls();
-    long_header();
-    two_requests();
-    faults();
-    two_faults();
-    options_before_ttl();
-    out_of_range();
-    rows();
-    links_out_of_range();
-    over_allowance();
-    tick_before();
-    shared_ledger();
+fn main(rt: HostRuntime) -> io::Result<()> {
+    document_01(&rt)?;
+    in_turn(&rt)?;
+    ttls(&rt)?;
+    ceilings(&rt)?;
+    end_rates(&rt)?;
+    no_requests(&rt)?;
+    qs_ttls(&rt)?;
+    long_header(&rt)?;
+    two_requests(&rt)?;
+    faults(&rt)?;
+    two_faults(&rt)?;
+    options_before_ttl(&rt)?;
+    out_of_range(&rt)?;
+    rows(&rt)?;
+    links_out_of_range(&rt)?;
+    over_allowance(&rt)?;
+    tick_before(&rt)?;
+    shared_ledger(&rt)?;
+    Ok(())
 }

@@ -4,6 +4,7 @@
 ghost use Rattle.std.specs.Prelude.{◌≤◌, ◌<◌};
 
 use printing::say;
+use std::io;
 
 // Bytes for the longest input here.
 const ROOM: usize = 400;
@@ -97,29 +98,32 @@ fn pieces(room: &mut [u8; ROOM], text: &[u8]) -> usize {
 }
 
 // The name, and the line that the function gives for the input.
-fn show(name: &[u8], room: &[u8; ROOM], end: usize) {
-    say(name);
-    say(b": ");
+fn show(rt: &impl Print, name: &[u8], room: &[u8; ROOM], end: usize) -> io::Result<()> {
+    say(rt, name)?;
+    say(rt, b": ")?;
     let found = plan::line(part(room, 0, end));
     let bytes = found.bytes;
-    say(part(&bytes, 0, found.len));
+    say(rt, part(&bytes, 0, found.len))?;
+    Ok(())
 }
 
-fn case(text: &[u8]) {
+fn case(rt: &impl Print, text: &[u8]) -> io::Result<()> {
     let colon = place(text, 0, b':');
     let mut room = [0u8; ROOM];
     let end = pieces(&mut room, behind(text, colon));
-    show(part(text, 0, colon), &room, end);
+    show(rt, part(text, 0, colon), &room, end)?;
+    Ok(())
 }
 
-pub fn cases(text: &[u8]) {
+pub fn cases(rt: &impl Print, text: &[u8]) -> io::Result<()> {
     let mut at = 0;
     while at < text.len() {
         let end = place(text, at, b'\n');
-        case(part(text, at, end));
+        case(rt, part(text, at, end))?;
         at = end;
         if at < text.len() {
             at += 1;
         }
     }
+    Ok(())
 }

@@ -3,15 +3,18 @@
 // format can be broken.
 #![tactic(auto)]
 
+use std::io;
+
 mod accepted;
 mod faults;
 mod inputs;
 mod lengths;
 mod others;
 
-fn main() {
-    accepted::run();
-    others::run();
-    faults::run();
-    lengths::run();
+fn main(rt: HostRuntime) -> io::Result<()> {
+    accepted::run(&rt)?;
+    others::run(&rt)?;
+    faults::run(&rt)?;
+    lengths::run(&rt)?;
+    Ok(())
 }

@@ -6,6 +6,7 @@ use phase::PhaseAnswer;
 use printing::{bytes, number, say};
 use refusals::{Answer, Refusal};
 use sender_rules::{Connection, Mark, Moment, OpenRequest, Sample, State};
+use std::io;
 
 // The relay's round trip, a segment, its headers and the initial window.
 pub const RELAY: u64 = 600_000;
@@ -35,141 +36,164 @@ pub const GOOD: [u8; 8] = *b"\x1b\x08\x08\xc0\x92\x49\x24\x90";
 pub const NEITHER: [u8; 8] = *b"\xee\xee\xee\xee\xee\xee\xee\xee";
 
 // A number behind its name.
-fn named(name: &[u8], n: u64) {
-    say(name);
-    number(n);
+fn named(rt: &impl Print, name: &[u8], n: u64) -> io::Result<()> {
+    say(rt, name)?;
+    number(rt, n)?;
+    Ok(())
 }
 
-fn show_request(request: OpenRequest) {
-    named(b" asked", request.code as u64);
-    number(request.ttl_diff as u64);
-    number(request.nonce as u64);
+fn show_request(rt: &impl Print, request: OpenRequest) -> io::Result<()> {
+    named(rt, b" asked", request.code as u64)?;
+    number(rt, request.ttl_diff as u64)?;
+    number(rt, request.nonce as u64)?;
+    Ok(())
 }
 
-fn show_state(state: State) {
+fn show_state(rt: &impl Print, state: State) -> io::Result<()> {
     match state {
-        State::Idle => say(b" idle"),
-        State::Asked(request) => show_request(request),
-        State::Quick(before) => named(b" quick", before.window),
+        State::Idle => say(rt, b" idle"),
+        State::Asked(request) => show_request(rt, request),
+        State::Quick(before) => named(rt, b" quick", before.window),
     }
 }
 
-fn show_moment(name: &[u8], moment: Moment) {
+fn show_moment(rt: &impl Print, name: &[u8], moment: Moment) -> io::Result<()> {
     if let Moment::At(time) = moment {
-        named(name, time);
+        named(rt, name, time)?;
     }
+    Ok(())
 }
 
-fn show_mark(mark: Mark) {
+fn show_mark(rt: &impl Print, mark: Mark) -> io::Result<()> {
     if let Mark::At(highest) = mark {
-        named(b" mark", highest as u64);
+        named(rt, b" mark", highest as u64)?;
     }
+    Ok(())
 }
 
-fn show_sample(sample: Sample) {
-    number(sample.bytes);
-    named(b" at", sample.time);
+fn show_sample(rt: &impl Print, sample: Sample) -> io::Result<()> {
+    number(rt, sample.bytes)?;
+    named(rt, b" at", sample.time)?;
+    Ok(())
 }
 
 // The first places of a row, as many as there are up to `count`.
-fn show_places(row: [Sample; 5], count: usize) {
+fn show_places(rt: &impl Print, row: [Sample; 5], count: usize) -> io::Result<()> {
     let mut i = 0;
     while i < 5 && i < count {
         if i > 0 {
-            say(b",");
+            say(rt, b",")?;
         }
         let sample = row[i];
-        show_sample(sample);
+        show_sample(rt, sample)?;
         i += 1;
     }
+    Ok(())
 }
 
-fn show_samples(row: [Sample; 5], count: usize) {
+fn show_samples(rt: &impl Print, row: [Sample; 5], count: usize) -> io::Result<()> {
     if count > 0 {
-        say(b"; samples");
-        show_places(row, count);
+        say(rt, b"; samples")?;
+        show_places(rt, row, count)?;
     }
-    say(b"\n");
+    say(rt, b"\n")?;
+    Ok(())
 }
 
-fn show_window(window: u64, ssthresh: u64) {
-    named(b"; window", window);
-    named(b" ssthresh", ssthresh);
+fn show_window(rt: &impl Print, window: u64, ssthresh: u64) -> io::Result<()> {
+    named(rt, b"; window", window)?;
+    named(rt, b" ssthresh", ssthresh)?;
+    Ok(())
 }
 
-fn show_moments(last: Moment, mark: Mark, period: Moment) {
-    show_moment(b" last", last);
-    show_mark(mark);
-    show_moment(b" period", period);
+fn show_moments(rt: &impl Print, last: Moment, mark: Mark, period: Moment) -> io::Result<()> {
+    show_moment(rt, b" last", last)?;
+    show_mark(rt, mark)?;
+    show_moment(rt, b" period", period)?;
+    Ok(())
 }
 
 // The end of a line with a record.
-fn show(c: Connection) {
-    show_window(c.window, c.ssthresh);
+fn show(rt: &impl Print, c: Connection) -> io::Result<()> {
+    show_window(rt, c.window, c.ssthresh)?;
     let state = c.state;
-    show_state(state);
+    show_state(rt, state)?;
     let last = c.last_request;
     let mark = c.mark;
     let period = c.period;
-    show_moments(last, mark, period);
+    show_moments(rt, last, mark, period)?;
     let row = c.samples;
-    show_samples(row, c.count);
+    show_samples(rt, row, c.count)?;
+    Ok(())
 }
 
 // All places of a record's samples, also those that do not count.
-pub fn places(c: Connection) {
-    named(b"places, count", c.count as u64);
-    say(b":");
+pub fn places(rt: &impl Print, c: Connection) -> io::Result<()> {
+    named(rt, b"places, count", c.count as u64)?;
+    say(rt, b":")?;
     let row = c.samples;
-    show_places(row, 5);
-    say(b"\n");
+    show_places(rt, row, 5)?;
+    say(rt, b"\n")?;
+    Ok(())
 }
 
-fn refused(why: Refusal) {
-    named(b": refused", why.number() as u64);
+fn refused(rt: &impl Print, why: Refusal) -> io::Result<()> {
+    named(rt, b": refused", why.number() as u64)?;
+    Ok(())
 }
 
 // A fresh record. Of one that is refused the line has the refusal alone.
-pub fn fresh(window: u64, ssthresh: u64) -> Connection {
-    named(b"fresh", window);
-    number(ssthresh);
+pub fn fresh(rt: &impl Print, window: u64, ssthresh: u64) -> io::Result<Connection> {
+    named(rt, b"fresh", window)?;
+    number(rt, ssthresh)?;
     let opened = connection::fresh(window, ssthresh);
     let answer = opened.answer;
     let c = opened.connection;
     match answer {
         Answer::Done => {
-            say(b": ready");
-            show(c);
+            say(rt, b": ready")?;
+            show(rt, c)?;
         }
         Answer::Refused(why) => {
-            refused(why);
-            say(b"\n");
+            refused(rt, why)?;
+            say(rt, b"\n")?;
         }
     }
-    c
+    Ok(c)
 }
 
-fn asking(code: u32, ttl: u8, qs_ttl: u8, nonce: u32, rtt: u64, time: u64) {
-    named(b"ask", code as u64);
-    named(b" ttl", ttl as u64);
-    number(qs_ttl as u64);
-    named(b" nonce", nonce as u64);
-    named(b" T", rtt);
-    named(b" at", time);
+fn asking(
+    rt: &impl Print,
+    code: u32,
+    ttl: u8,
+    qs_ttl: u8,
+    nonce: u32,
+    rtt: u64,
+    time: u64,
+) -> io::Result<()> {
+    named(rt, b"ask", code as u64)?;
+    named(rt, b" ttl", ttl as u64)?;
+    number(rt, qs_ttl as u64)?;
+    named(rt, b" nonce", nonce as u64)?;
+    named(rt, b" T", rtt)?;
+    named(rt, b" at", time)?;
+    Ok(())
 }
 
 // The answer, and the buffer after it.
-fn sent(answer: Answer, request: &[u8]) {
+fn sent(rt: &impl Print, answer: Answer, request: &[u8]) -> io::Result<()> {
     match answer {
-        Answer::Done => say(b": written"),
-        Answer::Refused(why) => refused(why),
+        Answer::Done => say(rt, b": written")?,
+        Answer::Refused(why) => refused(rt, why)?,
     }
-    say(b",");
-    bytes(request);
+    say(rt, b",")?;
+    bytes(rt, request)?;
+    Ok(())
 }
 
 // Each call hands the record back as the sender's call left it.
 pub fn ask_into(
+    rt: &impl Print,
     c: Connection,
     code: u32,
     ttl: u8,
@@ -178,18 +202,19 @@ pub fn ask_into(
     rtt: u64,
     time: u64,
     request: &mut [u8],
-) -> Connection {
-    asking(code, ttl, qs_ttl, nonce, rtt, time);
+) -> io::Result<Connection> {
+    asking(rt, code, ttl, qs_ttl, nonce, rtt, time)?;
     let asked = asking::ask(c, code, ttl, qs_ttl, nonce, rtt, time, request);
     let answer = asked.answer;
     let left = asked.connection;
-    sent(answer, request);
-    show(left);
-    left
+    sent(rt, answer, request)?;
+    show(rt, left)?;
+    Ok(left)
 }
 
 // Asking into a buffer of eight bytes, which hold something before.
 pub fn ask(
+    rt: &impl Print,
     c: Connection,
     code: u32,
     ttl: u8,
@@ -197,153 +222,182 @@ pub fn ask(
     nonce: u32,
     rtt: u64,
     time: u64,
-) -> Connection {
+) -> io::Result<Connection> {
     let mut request = NEITHER;
-    ask_into(c, code, ttl, qs_ttl, nonce, rtt, time, &mut request)
+    ask_into(rt, c, code, ttl, qs_ttl, nonce, rtt, time, &mut request)
 }
 
-fn responding(response: &[u8], rtt: u64, mss: u64, headers: u64) {
-    say(b"take response");
-    bytes(response);
-    named(b" T", rtt);
-    named(b" MSS", mss);
-    named(b" H", headers);
+fn responding(
+    rt: &impl Print,
+    response: &[u8],
+    rtt: u64,
+    mss: u64,
+    headers: u64,
+) -> io::Result<()> {
+    say(rt, b"take response")?;
+    bytes(rt, response)?;
+    named(rt, b" T", rtt)?;
+    named(rt, b" MSS", mss)?;
+    named(rt, b" H", headers)?;
+    Ok(())
 }
 
-fn judged(answer: ResponseAnswer) {
+fn judged(rt: &impl Print, answer: ResponseAnswer) -> io::Result<()> {
     match answer {
-        ResponseAnswer::Accepted(rate) => named(b": accepted", rate as u64),
-        ResponseAnswer::Refused(why) => refused(why),
+        ResponseAnswer::Accepted(rate) => named(rt, b": accepted", rate as u64),
+        ResponseAnswer::Refused(why) => refused(rt, why),
     }
 }
 
 pub fn respond_with(
+    rt: &impl Print,
     c: Connection,
     response: &[u8],
     rtt: u64,
     mss: u64,
     headers: u64,
-) -> Connection {
-    responding(response, rtt, mss, headers);
+) -> io::Result<Connection> {
+    responding(rt, response, rtt, mss, headers)?;
     let responded = accepting::take_response(c, response, rtt, mss, headers);
     let answer = responded.answer;
     let left = responded.connection;
-    judged(answer);
-    show(left);
-    left
+    judged(rt, answer)?;
+    show(rt, left)?;
+    Ok(left)
 }
 
 // A response of eight bytes.
-pub fn respond(c: Connection, response: [u8; 8], rtt: u64, mss: u64, headers: u64) -> Connection {
-    respond_with(c, &response, rtt, mss, headers)
+pub fn respond(
+    rt: &impl Print,
+    c: Connection,
+    response: [u8; 8],
+    rtt: u64,
+    mss: u64,
+    headers: u64,
+) -> io::Result<Connection> {
+    respond_with(rt, c, &response, rtt, mss, headers)
 }
 
-pub fn finished(answer: Answer) {
+pub fn finished(rt: &impl Print, answer: Answer) -> io::Result<()> {
     match answer {
-        Answer::Done => say(b": done"),
-        Answer::Refused(why) => refused(why),
+        Answer::Done => say(rt, b": done"),
+        Answer::Refused(why) => refused(rt, why),
     }
 }
 
-pub fn acknowledged(c: Connection, flight: u64) -> Connection {
-    named(b"acknowledged", flight);
+pub fn acknowledged(rt: &impl Print, c: Connection, flight: u64) -> io::Result<Connection> {
+    named(rt, b"acknowledged", flight)?;
     let ended = ending::first_acknowledgement(c, flight);
     let answer = ended.answer;
     let left = ended.connection;
-    finished(answer);
-    show(left);
-    left
+    finished(rt, answer)?;
+    show(rt, left)?;
+    Ok(left)
 }
 
-pub fn loss(c: Connection) -> Connection {
-    say(b"loss");
+pub fn loss(rt: &impl Print, c: Connection) -> io::Result<Connection> {
+    say(rt, b"loss")?;
     let ended = ending::loss(c);
     let answer = ended.answer;
     let left = ended.connection;
-    finished(answer);
-    show(left);
-    left
+    finished(rt, answer)?;
+    show(rt, left)?;
+    Ok(left)
 }
 
-pub fn give_up(c: Connection) -> Connection {
-    say(b"give up");
+pub fn give_up(rt: &impl Print, c: Connection) -> io::Result<Connection> {
+    say(rt, b"give up")?;
     let ended = ending::give_up(c);
     let answer = ended.answer;
     let left = ended.connection;
-    finished(answer);
-    show(left);
-    left
+    finished(rt, answer)?;
+    show(rt, left)?;
+    Ok(left)
 }
 
-fn echoing(acknowledgement: u32, highest: u32, mss: u64) {
-    named(b"echo", acknowledgement as u64);
-    named(b" highest", highest as u64);
-    named(b" MSS", mss);
+fn echoing(rt: &impl Print, acknowledgement: u32, highest: u32, mss: u64) -> io::Result<()> {
+    named(rt, b"echo", acknowledgement as u64)?;
+    named(rt, b" highest", highest as u64)?;
+    named(rt, b" MSS", mss)?;
+    Ok(())
 }
 
-fn reacted(answer: EchoAnswer) {
+fn reacted(rt: &impl Print, answer: EchoAnswer) -> io::Result<()> {
     match answer {
-        EchoAnswer::Reacted => say(b": reacted"),
-        EchoAnswer::Ignored => say(b": ignored"),
-        EchoAnswer::Refused(why) => refused(why),
+        EchoAnswer::Reacted => say(rt, b": reacted"),
+        EchoAnswer::Ignored => say(rt, b": ignored"),
+        EchoAnswer::Refused(why) => refused(rt, why),
     }
 }
 
-pub fn echo(c: Connection, acknowledgement: u32, highest: u32, mss: u64) -> Connection {
-    echoing(acknowledgement, highest, mss);
+pub fn echo(
+    rt: &impl Print,
+    c: Connection,
+    acknowledgement: u32,
+    highest: u32,
+    mss: u64,
+) -> io::Result<Connection> {
+    echoing(rt, acknowledgement, highest, mss)?;
     let echoed = echo::echo(c, acknowledgement, highest, mss);
     let answer = echoed.answer;
     let left = echoed.connection;
-    reacted(answer);
-    show(left);
-    left
+    reacted(rt, answer)?;
+    show(rt, left)?;
+    Ok(left)
 }
 
-fn added(answer: Answer) {
+fn added(rt: &impl Print, answer: Answer) -> io::Result<()> {
     match answer {
-        Answer::Done => say(b": done"),
-        Answer::Refused(why) => refused(why),
+        Answer::Done => say(rt, b": done"),
+        Answer::Refused(why) => refused(rt, why),
     }
 }
 
-pub fn sample(c: Connection, time: u64, amount: u64) -> Connection {
-    named(b"sample", amount);
-    named(b" at", time);
+pub fn sample(rt: &impl Print, c: Connection, time: u64, amount: u64) -> io::Result<Connection> {
+    named(rt, b"sample", amount)?;
+    named(rt, b" at", time)?;
     let sampled = sampling::sample(c, time, amount);
     let answer = sampled.answer;
     let left = sampled.connection;
-    added(answer);
-    show(left);
-    left
+    added(rt, answer)?;
+    show(rt, left)?;
+    Ok(left)
 }
 
-fn phasing(rtt: u64, initial_window: u64, time: u64) {
-    named(b"phase T", rtt);
-    named(b" IW", initial_window);
-    named(b" at", time);
+fn phasing(rt: &impl Print, rtt: u64, initial_window: u64, time: u64) -> io::Result<()> {
+    named(rt, b"phase T", rtt)?;
+    named(rt, b" IW", initial_window)?;
+    named(rt, b" at", time)?;
+    Ok(())
 }
 
-fn found(answer: PhaseAnswer) {
+fn found(rt: &impl Print, answer: PhaseAnswer) -> io::Result<()> {
     match answer {
-        PhaseAnswer::Validated => say(b": validated"),
-        PhaseAnswer::NonValidated => say(b": non-validated"),
-        PhaseAnswer::Refused(why) => refused(why),
+        PhaseAnswer::Validated => say(rt, b": validated"),
+        PhaseAnswer::NonValidated => say(rt, b": non-validated"),
+        PhaseAnswer::Refused(why) => refused(rt, why),
     }
 }
 
-pub fn phase_with(c: Connection, rtt: u64, initial_window: u64, time: u64) -> Connection {
-    phasing(rtt, initial_window, time);
+pub fn phase_with(
+    rt: &impl Print,
+    c: Connection,
+    rtt: u64,
+    initial_window: u64,
+    time: u64,
+) -> io::Result<Connection> {
+    phasing(rt, rtt, initial_window, time)?;
     let phased = phase::phase(c, rtt, initial_window, time);
     let answer = phased.answer;
     let left = phased.connection;
-    found(answer);
-    show(left);
-    left
+    found(rt, answer)?;
+    show(rt, left)?;
+    Ok(left)
 }
 
 // The phase on the relay.
-pub fn phase(c: Connection, time: u64) -> Connection {
-    phase_with(c, RELAY, INITIAL, time)
+pub fn phase(rt: &impl Print, c: Connection, time: u64) -> io::Result<Connection> {
+    phase_with(rt, c, RELAY, INITIAL, time)
 }
 
 // The bytes of a response.
@@ -377,29 +431,29 @@ pub fn response_to(request: [u8; 8], ttl: u8) -> [u8; 8] {
 }
 
 // A response on the relay.
-pub fn answer(c: Connection, response: [u8; 8]) -> Connection {
-    respond(c, response, RELAY, SEGMENT, HEADERS)
+pub fn answer(rt: &impl Print, c: Connection, response: [u8; 8]) -> io::Result<Connection> {
+    respond(rt, c, response, RELAY, SEGMENT, HEADERS)
 }
 
 // Asking for 8 on the relay.
-pub fn ask_at(c: Connection, time: u64) -> Connection {
-    ask(c, 8, 64, 128, FIELDS, RELAY, time)
+pub fn ask_at(rt: &impl Print, c: Connection, time: u64) -> io::Result<Connection> {
+    ask(rt, c, 8, 64, 128, FIELDS, RELAY, time)
 }
 
-pub fn idle() -> Connection {
-    fresh(14_600, 20_000)
+pub fn idle(rt: &impl Print) -> io::Result<Connection> {
+    fresh(rt, 14_600, 20_000)
 }
 
-pub fn asked() -> Connection {
-    ask_at(idle(), 1_000_000)
+pub fn asked(rt: &impl Print) -> io::Result<Connection> {
+    ask_at(rt, idle(rt)?, 1_000_000)
 }
 
-pub fn quick() -> Connection {
-    answer(asked(), GOOD)
+pub fn quick(rt: &impl Print) -> io::Result<Connection> {
+    answer(rt, asked(rt)?, GOOD)
 }
 
 // A small sample and the phase at its time.
-pub fn sampled(c: Connection, time: u64) -> Connection {
-    let small = sample(c, time, 10);
-    phase(small, time)
+pub fn sampled(rt: &impl Print, c: Connection, time: u64) -> io::Result<Connection> {
+    let small = sample(rt, c, time, 10)?;
+    phase(rt, small, time)
 }

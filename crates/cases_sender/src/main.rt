@@ -11,6 +11,7 @@ use calls::{
 };
 use printing::say;
 use sender_rules::Connection;
+use std::io;
 
 mod calls;
 mod echoes;
@@ -23,53 +24,56 @@ mod responses;
 const SHORT: u64 = 30_000;
 
 // Asking for 8 on the relay, and the answer.
-fn relayed(c: Connection, time: u64, nonce: u32) -> Connection {
+fn relayed(rt: &impl Print, c: Connection, time: u64, nonce: u32) -> io::Result<Connection> {
     let mut request = NEITHER;
-    let sent = ask_into(c, 8, 64, 128, nonce, RELAY, time, &mut request);
-    answer(sent, response_to(request, 64))
+    let sent = ask_into(rt, c, 8, 64, 128, nonce, RELAY, time, &mut request)?;
+    answer(rt, sent, response_to(request, 64))
 }
 
 // A connection whose window was worked out on the short path.
-fn short_path() -> Connection {
+fn short_path(rt: &impl Print) -> io::Result<Connection> {
     let mut request = NEITHER;
-    let sent = ask_into(idle(), 8, 64, 128, 5, SHORT, 1_000_000, &mut request);
-    let taken = respond(sent, response_to(request, 64), SHORT, SEGMENT, HEADERS);
-    acknowledged(taken, 40_000)
+    let sent = ask_into(rt, idle(rt)?, 8, 64, 128, 5, SHORT, 1_000_000, &mut request)?;
+    let taken = respond(rt, sent, response_to(request, 64), SHORT, SEGMENT, HEADERS)?;
+    acknowledged(rt, taken, 40_000)
 }
 
 // Its window on the relay: small samples, and a period that is over.
-fn unused(came: Connection) -> Connection {
-    let mut c = sample(came, 2_000_000, 10_000);
-    c = sample(c, 2_600_000, 12_000);
-    c = phase(c, 3_000_000);
-    c = sample(c, 302_000_000, 11_000);
-    c = sample(c, 302_600_000, 9_000);
-    c = phase(c, 303_000_000);
-    phase(c, 303_000_001)
+fn unused(rt: &impl Print, came: Connection) -> io::Result<Connection> {
+    let mut c = sample(rt, came, 2_000_000, 10_000)?;
+    c = sample(rt, c, 2_600_000, 12_000)?;
+    c = phase(rt, c, 3_000_000)?;
+    c = sample(rt, c, 302_000_000, 11_000)?;
+    c = sample(rt, c, 302_600_000, 9_000)?;
+    c = phase(rt, c, 303_000_000)?;
+    phase(rt, c, 303_000_001)
 }
 
-fn moved_to_the_relay() {
-    say(b"moved to the relay:\n");
-    let lowered = unused(short_path());
-    let c = relayed(lowered, 303_100_000, FIELDS);
-    acknowledged(c, 10_000);
-    acknowledged(c, 700_000);
-    acknowledged(c, 800_000);
+fn moved_to_the_relay(rt: &impl Print) -> io::Result<()> {
+    say(rt, b"moved to the relay:\n")?;
+    let lowered = unused(rt, short_path(rt)?)?;
+    let c = relayed(rt, lowered, 303_100_000, FIELDS)?;
+    acknowledged(rt, c, 10_000)?;
+    acknowledged(rt, c, 700_000)?;
+    acknowledged(rt, c, 800_000)?;
+    Ok(())
 }
 
-fn second_connection() {
-    say(b"a second connection:\n");
-    let c = relayed(idle(), 1_000_000, 77);
-    let lost = loss(c);
-    loss(lost);
+fn second_connection(rt: &impl Print) -> io::Result<()> {
+    say(rt, b"a second connection:\n")?;
+    let c = relayed(rt, idle(rt)?, 1_000_000, 77)?;
+    let lost = loss(rt, c)?;
+    loss(rt, lost)?;
+    Ok(())
 }
 
-fn main() {
-    moved_to_the_relay();
-    second_connection();
-    requests::run();
-    responses::run();
-    echoes::run();
-    phases::run();
-    records::run();
+fn main(rt: HostRuntime) -> io::Result<()> {
+    moved_to_the_relay(&rt)?;
+    second_connection(&rt)?;
+    requests::run(&rt)?;
+    responses::run(&rt)?;
+    echoes::run(&rt)?;
+    phases::run(&rt)?;
+    records::run(&rt)?;
+    Ok(())
 }

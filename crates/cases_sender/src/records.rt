@@ -6,6 +6,7 @@ use crate::calls::{
 };
 use printing::say;
 use sender_rules::{Before, Connection, Mark, Moment, OpenRequest, Sample, State};
+use std::io;
 
 // Five samples, the newest first.
 fn row() -> [Sample; 5] {
@@ -97,123 +98,144 @@ fn quick_from(window: u64) -> State {
 }
 
 // Every call on a record as it came, and all places of its samples afterwards.
-fn every_call(c: Connection) {
-    places(ask_at(c, 900_000_000));
-    places(answer(c, GOOD));
-    places(acknowledged(c, 14_600));
-    places(loss(c));
-    places(give_up(c));
-    places(echo(c, 5_001, 6_000, SEGMENT));
-    places(sample(c, 900_000_000, 10));
-    places(phase(c, 900_000_000));
+fn every_call(rt: &impl Print, c: Connection) -> io::Result<()> {
+    places(rt, ask_at(rt, c, 900_000_000)?)?;
+    places(rt, answer(rt, c, GOOD)?)?;
+    places(rt, acknowledged(rt, c, 14_600)?)?;
+    places(rt, loss(rt, c)?)?;
+    places(rt, give_up(rt, c)?)?;
+    places(rt, echo(rt, c, 5_001, 6_000, SEGMENT)?)?;
+    places(rt, sample(rt, c, 900_000_000, 10)?)?;
+    places(rt, phase(rt, c, 900_000_000)?)?;
+    Ok(())
 }
 
 // Every call on a record as it came. Where a sample is added, what a place holds that does not count is left open.
-fn each_call(c: Connection) {
-    ask_at(c, 900_000_000);
-    answer(c, GOOD);
-    acknowledged(c, 14_600);
-    loss(c);
-    give_up(c);
-    echo(c, 5_001, 6_000, SEGMENT);
-    sample(c, 900_000_000, 10);
-    phase(c, 900_000_000);
+fn each_call(rt: &impl Print, c: Connection) -> io::Result<()> {
+    ask_at(rt, c, 900_000_000)?;
+    answer(rt, c, GOOD)?;
+    acknowledged(rt, c, 14_600)?;
+    loss(rt, c)?;
+    give_up(rt, c)?;
+    echo(rt, c, 5_001, 6_000, SEGMENT)?;
+    sample(rt, c, 900_000_000, 10)?;
+    phase(rt, c, 900_000_000)?;
+    Ok(())
 }
 
-fn windows_out_of_range() {
-    say(b"a record with a window of 0:\n");
-    every_call(made(0, 20_000, State::Idle, 2, row()));
-    say(b"a record with a window of 2^40 + 1:\n");
-    every_call(made(MOST + 1, 20_000, asked_for(8, FIELDS), 0, row()));
-    say(b"a record with an ssthresh of 2^40 + 1:\n");
-    every_call(made(14_600, MOST + 1, quick_from(1_000), 1, row()));
+fn windows_out_of_range(rt: &impl Print) -> io::Result<()> {
+    say(rt, b"a record with a window of 0:\n")?;
+    every_call(rt, made(0, 20_000, State::Idle, 2, row()))?;
+    say(rt, b"a record with a window of 2^40 + 1:\n")?;
+    every_call(rt, made(MOST + 1, 20_000, asked_for(8, FIELDS), 0, row()))?;
+    say(rt, b"a record with an ssthresh of 2^40 + 1:\n")?;
+    every_call(rt, made(14_600, MOST + 1, quick_from(1_000), 1, row()))?;
+    Ok(())
 }
 
-fn requests_out_of_range() {
-    say(b"a record that asked for 0:\n");
-    every_call(made(14_600, 20_000, asked_for(0, FIELDS), 3, row()));
-    say(b"a record that asked for 16:\n");
-    every_call(made(14_600, 20_000, asked_for(16, FIELDS), 3, row()));
-    say(b"a record with a nonce of 2^30:\n");
-    every_call(made(14_600, 20_000, asked_for(8, ONES + 1), 3, row()));
+fn requests_out_of_range(rt: &impl Print) -> io::Result<()> {
+    say(rt, b"a record that asked for 0:\n")?;
+    every_call(rt, made(14_600, 20_000, asked_for(0, FIELDS), 3, row()))?;
+    say(rt, b"a record that asked for 16:\n")?;
+    every_call(rt, made(14_600, 20_000, asked_for(16, FIELDS), 3, row()))?;
+    say(rt, b"a record with a nonce of 2^30:\n")?;
+    every_call(rt, made(14_600, 20_000, asked_for(8, ONES + 1), 3, row()))?;
+    Ok(())
 }
 
-fn befores_out_of_range() {
-    say(b"a record with a window before of 0:\n");
-    every_call(made(14_600, 20_000, quick_from(0), 4, row()));
-    say(b"a record with a window before of 2^40 + 1:\n");
-    every_call(made(14_600, 20_000, quick_from(MOST + 1), 4, row()));
+fn befores_out_of_range(rt: &impl Print) -> io::Result<()> {
+    say(rt, b"a record with a window before of 0:\n")?;
+    every_call(rt, made(14_600, 20_000, quick_from(0), 4, row()))?;
+    say(rt, b"a record with a window before of 2^40 + 1:\n")?;
+    every_call(rt, made(14_600, 20_000, quick_from(MOST + 1), 4, row()))?;
+    Ok(())
 }
 
-fn counts_out_of_range() {
-    say(b"a record with six samples:\n");
-    every_call(made(14_600, 20_000, asked_for(8, FIELDS), 6, row()));
-    say(b"a record with more samples than can be:\n");
-    every_call(made(14_600, 20_000, State::Idle, usize::MAX, row()));
+fn counts_out_of_range(rt: &impl Print) -> io::Result<()> {
+    say(rt, b"a record with six samples:\n")?;
+    every_call(rt, made(14_600, 20_000, asked_for(8, FIELDS), 6, row()))?;
+    say(rt, b"a record with more samples than can be:\n")?;
+    every_call(rt, made(14_600, 20_000, State::Idle, usize::MAX, row()))?;
+    Ok(())
 }
 
-fn samples_above() {
-    say(b"a record with its newest sample above 2^40:\n");
+fn samples_above(rt: &impl Print) -> io::Result<()> {
+    say(rt, b"a record with its newest sample above 2^40:\n")?;
     let newest = row_with(0, MOST + 1);
-    every_call(made(14_600, 20_000, quick_from(1_000), 1, newest));
-    say(b"a record with its earliest sample above 2^40:\n");
+    every_call(rt, made(14_600, 20_000, quick_from(1_000), 1, newest))?;
+    say(rt, b"a record with its earliest sample above 2^40:\n")?;
     let earliest = row_with(4, u64::MAX);
-    every_call(made(14_600, 20_000, asked_for(8, FIELDS), 5, earliest));
+    every_call(rt, made(14_600, 20_000, asked_for(8, FIELDS), 5, earliest))?;
+    Ok(())
 }
 
-fn places_not_counted() {
-    say(b"records with places above 2^40 that do not count:\n");
-    each_call(made(14_600, 20_000, State::Idle, 4, row_with(4, MOST + 1)));
+fn places_not_counted(rt: &impl Print) -> io::Result<()> {
+    say(rt, b"records with places above 2^40 that do not count:\n")?;
+    each_call(
+        rt,
+        made(14_600, 20_000, State::Idle, 4, row_with(4, MOST + 1)),
+    )?;
     let first = row_with(0, u64::MAX);
-    each_call(made(14_600, 20_000, asked_for(8, FIELDS), 0, first));
+    each_call(rt, made(14_600, 20_000, asked_for(8, FIELDS), 0, first))?;
+    Ok(())
 }
 
-fn records_at_the_limits() {
-    say(b"records with numbers at their limits:\n");
+fn records_at_the_limits(rt: &impl Print) -> io::Result<()> {
+    say(rt, b"records with numbers at their limits:\n")?;
     let much = row_with(2, MOST);
-    each_call(made(MOST, MOST, quick_from(MOST), 5, much));
-    each_call(made(1, 0, quick_from(1), 5, much));
-    each_call(made(1, 0, asked_for(15, ONES), 5, row()));
-    each_call(made(1, 0, asked_for(1, 0), 5, row()));
+    each_call(rt, made(MOST, MOST, quick_from(MOST), 5, much))?;
+    each_call(rt, made(1, 0, quick_from(1), 5, much))?;
+    each_call(rt, made(1, 0, asked_for(15, ONES), 5, row()))?;
+    each_call(rt, made(1, 0, asked_for(1, 0), 5, row()))?;
+    Ok(())
 }
 
-fn below_before() {
-    say(b"a record that is quick with a window below the one before:\n");
-    each_call(made(14_600, 20_000, quick_from(50_000), 2, row()));
+fn below_before(rt: &impl Print) -> io::Result<()> {
+    say(
+        rt,
+        b"a record that is quick with a window below the one before:\n",
+    )?;
+    each_call(rt, made(14_600, 20_000, quick_from(50_000), 2, row()))?;
+    Ok(())
 }
 
-fn no_last_request() {
-    say(b"records that are asked or quick with no last request:\n");
+fn no_last_request(rt: &impl Print) -> io::Result<()> {
+    say(
+        rt,
+        b"records that are asked or quick with no last request:\n",
+    )?;
     let open = asked_for(8, FIELDS);
     let opened = connection::fresh(14_600, 20_000);
     let came = opened.connection;
     let a = connection::with_state(came, open);
-    ask_at(a, 0);
-    let q = answer(a, GOOD);
-    ask_at(q, 0);
-    let c = loss(q);
-    ask_at(c, 0);
+    ask_at(rt, a, 0)?;
+    let q = answer(rt, a, GOOD)?;
+    ask_at(rt, q, 0)?;
+    let c = loss(rt, q)?;
+    ask_at(rt, c, 0)?;
+    Ok(())
 }
 
 // Places that do not count hold great samples, and times after the calls'.
-fn places_not_looked_at() {
-    say(b"places that do not count, and their times:\n");
+fn places_not_looked_at(rt: &impl Print) -> io::Result<()> {
+    say(rt, b"places that do not count, and their times:\n")?;
     let mut samples = [Sample {
         time: 800,
         bytes: 50_000,
     }; 5];
     let none = made_of(samples, 0, Moment::Absent);
-    phase(none, 5);
-    sample(none, 5, 10);
-    sampled(none, 5);
+    phase(rt, none, 5)?;
+    sample(rt, none, 5, 10)?;
+    sampled(rt, none, 5)?;
     samples[0] = Sample {
         time: 800,
         bytes: 10,
     };
     let one = made_of(samples, 1, Moment::Absent);
-    phase(one, 800);
-    sample(one, 799, 10);
-    phase(sample(one, 800, 20), 800);
+    phase(rt, one, 800)?;
+    sample(rt, one, 799, 10)?;
+    phase(rt, sample(rt, one, 800, 20)?, 800)?;
+    Ok(())
 }
 
 // A sample before the newest one is later than every call: it is not older than the limit, so it counts.
@@ -226,18 +248,19 @@ fn future() -> Connection {
     made_of(samples, 5, Moment::Absent)
 }
 
-fn from_the_future() {
-    say(b"a record with an older sample from the future:\n");
+fn from_the_future(rt: &impl Print) -> io::Result<()> {
+    say(rt, b"a record with an older sample from the future:\n")?;
     let mut c = future();
-    phase(c, 800);
-    phase(c, 799);
-    phase(c, END);
-    c = sample(c, 900, 60);
-    c = sample(c, 901, 70);
-    c = sample(c, 902, 80);
-    phase(c, 902);
-    c = sample(c, 903, 90);
-    phase(c, 903);
+    phase(rt, c, 800)?;
+    phase(rt, c, 799)?;
+    phase(rt, c, END)?;
+    c = sample(rt, c, 900, 60)?;
+    c = sample(rt, c, 901, 70)?;
+    c = sample(rt, c, 902, 80)?;
+    phase(rt, c, 902)?;
+    c = sample(rt, c, 903, 90)?;
+    phase(rt, c, 903)?;
+    Ok(())
 }
 
 // Two samples, the newest at the last time and the other at the first.
@@ -255,34 +278,37 @@ fn ends() -> [Sample; 5] {
 }
 
 // The phase at the last time, in a period that started at a time.
-fn period_from(time: u64) {
+fn period_from(rt: &impl Print, time: u64) -> io::Result<()> {
     let c = made_of(ends(), 2, Moment::At(time));
-    phase(c, END);
+    phase(rt, c, END)?;
+    Ok(())
 }
 
-fn newest_at_the_end() {
-    say(b"a record with its newest sample at the end of time:\n");
+fn newest_at_the_end(rt: &impl Print) -> io::Result<()> {
+    say(rt, b"a record with its newest sample at the end of time:\n")?;
     let c = made_of(ends(), 2, Moment::Absent);
-    phase(c, END);
-    phase(c, END - 1);
-    sample(c, END - 1, 10);
-    sample(c, END, 10);
-    period_from(0);
-    period_from(END - 300_000_000);
-    period_from(END - 300_000_001);
+    phase(rt, c, END)?;
+    phase(rt, c, END - 1)?;
+    sample(rt, c, END - 1, 10)?;
+    sample(rt, c, END, 10)?;
+    period_from(rt, 0)?;
+    period_from(rt, END - 300_000_000)?;
+    period_from(rt, END - 300_000_001)?;
+    Ok(())
 }
 
-pub fn run() {
-    windows_out_of_range();
-    requests_out_of_range();
-    befores_out_of_range();
-    counts_out_of_range();
-    samples_above();
-    places_not_counted();
-    records_at_the_limits();
-    below_before();
-    no_last_request();
-    places_not_looked_at();
-    from_the_future();
-    newest_at_the_end();
+pub fn run(rt: &impl Print) -> io::Result<()> {
+    windows_out_of_range(rt)?;
+    requests_out_of_range(rt)?;
+    befores_out_of_range(rt)?;
+    counts_out_of_range(rt)?;
+    samples_above(rt)?;
+    places_not_counted(rt)?;
+    records_at_the_limits(rt)?;
+    below_before(rt)?;
+    no_last_request(rt)?;
+    places_not_looked_at(rt)?;
+    from_the_future(rt)?;
+    newest_at_the_end(rt)?;
+    Ok(())
 }

@@ -18,7 +18,6 @@ use Rattle.wire_rules.specs.declared.Request.{Request}
 use Rattle.ipv4.specs.declared.ecn.Marking.{Marking}
 use Rattle.ipv4.specs.declared.ecn.Marking.TheVariants as Markings
 use Rattle.wire_rules.specs.Ipv4.Checks.{header_checked}
-use Rattle.wire_rules.specs.Ipv4.Packets.{forwarded}
 use Rattle.wire_rules.specs.Ipv4.Marks.{Mark, marked, dropped, mark_reply}
 use Rattle.ipv4.specs.Replies.{mark_told}
 use Rattle.wire_rules.specs.Ipv4.Views.{view}
