@@ -12,9 +12,11 @@ use Rattle.accepting.proofs.grant.Goals as goal
 
 pub returns-then-window-connection : goal.returns-then-window-connection
 returns-then-window-connection c =
-    let told : (let a = c.args in c.in-Of.window ≡ window_bytes a.rate a.rtt a.mss a.headers) = window_told_lem c.args.rate c.args.rtt c.args.mss c.args.headers c.requires.0 c.requires.1 _ (sym (ap window_told c.in-Of.is) ∙ c.window_bytes.ensures) in
-    let d = c.args.connection in
-    c.with_state.ensures ∙ not_above d _ c.if-window-connection.true ∙ ap (granted d) (told)
+    let a = c.args in
+    let told : c.in-Of.window ≡ window_bytes a.rate a.rtt a.mss a.headers =
+    window_told_lem a.rate a.rtt a.mss a.headers c.requires.0 c.requires.1 _ (sym (ap window_told c.in-Of.is) ∙ c.window_bytes.ensures) in
+    let d = a.connection in
+    c.with_state.ensures ∙ not_above d _ c.if-window-connection.true ∙ ap (granted d) told
 
 pub returns-in-Refused : goal.returns-in-Refused
 returns-in-Refused c =
@@ -22,6 +24,8 @@ returns-in-Refused c =
 
 pub returns-else-window-connection : goal.returns-else-window-connection
 returns-else-window-connection c =
-    let told : (let a = c.args in c.in-Of.window ≡ window_bytes a.rate a.rtt a.mss a.headers) = window_told_lem c.args.rate c.args.rtt c.args.mss c.args.headers c.requires.0 c.requires.1 _ (sym (ap window_told c.in-Of.is) ∙ c.window_bytes.ensures) in
-    let d = c.args.connection in
-    ap (λ (e : Connection). with_window e c.in-Of.window) c.with_state-quick.ensures ∙ above d _ c.if-window-connection.false ∙ ap (granted d) (told)
+    let a = c.args in
+    let told : c.in-Of.window ≡ window_bytes a.rate a.rtt a.mss a.headers =
+    window_told_lem a.rate a.rtt a.mss a.headers c.requires.0 c.requires.1 _ (sym (ap window_told c.in-Of.is) ∙ c.window_bytes.ensures) in
+    let d = a.connection in
+    ap (λ (e : Connection). with_window e c.in-Of.window) c.with_state-quick.ensures ∙ above d _ c.if-window-connection.false ∙ ap (granted d) told

@@ -8,15 +8,17 @@ use Rattle.accepting.proofs.settle.Goals as goal
 
 pub grant-requires : goal.grant-requires
 grant-requires c =
-    let fits : (let a = c.args in answer a.response.rate ≡ judged a.request a.response) = sym (ap (judgement_told c.args.response.rate) c.in-Fits.is) ∙ c.judge.ensures in
-    (fits_top c.args.request c.args.response _ c.requires.0 (fits), c.requires.3)
+    let a = c.args in
+    let fits : answer a.response.rate ≡ judged a.request a.response =
+    sym (ap (judgement_told a.response.rate) c.in-Fits.is) ∙ c.judge.ensures in
+    (fits_top a.request a.response _ c.requires.0 fits, c.requires.3)
 
 pub returns-in-Fits : goal.returns-in-Fits
 returns-in-Fits c =
-    let fits : (let a = c.args in answer a.response.rate ≡ judged a.request a.response) = sym (ap (judgement_told c.args.response.rate) c.in-Fits.is) ∙ c.judge.ensures in
     let a = c.args in
-    let e = fits in
-    record { answer = e; «record» = c.grant.ensures ∙ ap (after_response a.connection (transport a.rtt a.mss a.headers)) e }
+    let fits : answer a.response.rate ≡ judged a.request a.response =
+    sym (ap (judgement_told a.response.rate) c.in-Fits.is) ∙ c.judge.ensures in
+    record { answer = fits; «record» = c.grant.ensures ∙ ap (after_response a.connection (transport a.rtt a.mss a.headers)) fits }
 
 pub returns-in-Refused : goal.returns-in-Refused
 returns-in-Refused c =

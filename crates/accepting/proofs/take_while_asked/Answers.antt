@@ -9,7 +9,8 @@ use Rattle.accepting.proofs.take_while_asked.Goals as goal
 
 pub settle-requires : goal.settle-requires
 settle-requires c =
-    (c.requires.0, c.requires.1, read_nonce c.args.response.now _ (λ i. omega (arith, c.shared_slice_known-1.given i)) (sym (ap response_told c.in-Response.is) ∙ c.read.ensures), c.requires.2)
+    let small = read_nonce c.args.response.now _ (λ i. omega (arith, c.type_inv.response i)) (sym (ap response_told c.in-Response.is) ∙ c.read.ensures) in
+    (c.requires.0, c.requires.1, small, c.requires.2)
 
 pub returns-in-Refused : goal.returns-in-Refused
 returns-in-Refused c =

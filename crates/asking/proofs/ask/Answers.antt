@@ -3,7 +3,6 @@
 use mathlib.Core.Bool.{true, false}
 use mathlib.Core.Path.{◌≡◌, sym, ap, ◌∙◌}
 use lib.ListN.{length}
-use Rattle.common.proofs.Choice.{held, failed}
 use Rattle.refusals.specs.Reply.{answer}
 use Rattle.refusals.proofs.ReplyLaws.{replied}
 use Rattle.sender_rules.specs.declared.Connection.{Connection}
@@ -16,55 +15,59 @@ pub returns-then-not-is_in_range : goal.returns-then-not-is_in_range
 returns-then-not-is_in_range c =
     let a = c.args in
     let both = replied (sending a.connection a.request.now)
-    (ask_out a.connection (wish a.code a.ttl a.qs_ttl a.nonce a.rtt a.time) a.request.now (failed _ _ c.is_in_range.ensures c.if-not-is_in_range.true-raw)) in
+    (ask_out a.connection (wish a.code a.ttl a.qs_ttl a.nonce a.rtt a.time) a.request.now (sym c.is_in_range.ensures ∙ c.if-not-is_in_range.true)) in
     record { answer = both.0; «record» = both.1 }
 
 pub returns-then-not-ask_in_range : goal.returns-then-not-ask_in_range
 returns-then-not-ask_in_range c =
-    let sound_record : in_range c.args.connection ≡ true = held _ _ c.is_in_range.ensures c.if-not-is_in_range.false-raw in
+    let sound_record : in_range c.args.connection ≡ true = sym c.is_in_range.ensures ∙ c.if-not-is_in_range.false in
     let a = c.args in
     let both = replied (sending a.connection a.request.now)
-    (ask_numbers_out a.connection (wish a.code a.ttl a.qs_ttl a.nonce a.rtt a.time) a.request.now (sound_record) (failed _ _ c.ask_in_range.ensures c.if-not-ask_in_range.true-raw)) in
+    (ask_numbers_out a.connection (wish a.code a.ttl a.qs_ttl a.nonce a.rtt a.time) a.request.now sound_record (sym c.ask_in_range.ensures ∙ c.if-not-ask_in_range.true)) in
     record { answer = both.0; «record» = both.1 }
 
 pub returns-then-is_before : goal.returns-then-is_before
 returns-then-is_before c =
-    let sound_record : in_range c.args.connection ≡ true = held _ _ c.is_in_range.ensures c.if-not-is_in_range.false-raw in
-    let numbers : (let a = c.args in ask_in_range a.code a.ttl a.nonce a.rtt (length a.request.now) ≡ true) = held _ _ c.ask_in_range.ensures c.if-not-ask_in_range.false-raw in
     let a = c.args in
+    let sound_record : in_range a.connection ≡ true = sym c.is_in_range.ensures ∙ c.if-not-is_in_range.false in
+    let numbers : ask_in_range a.code a.ttl a.nonce a.rtt (length a.request.now) ≡ true =
+    sym c.ask_in_range.ensures ∙ c.if-not-ask_in_range.false in
     let both = replied (sending a.connection a.request.now)
-    (ask_early a.connection (wish a.code a.ttl a.qs_ttl a.nonce a.rtt a.time) a.request.now (sound_record) (numbers) (sym c.is_before.ensures ∙ c.if-is_before.true)) in
+    (ask_early a.connection (wish a.code a.ttl a.qs_ttl a.nonce a.rtt a.time) a.request.now sound_record numbers (sym c.is_before.ensures ∙ c.if-is_before.true)) in
     record { answer = both.0; «record» = both.1 }
 
 pub returns-then-is_busy : goal.returns-then-is_busy
 returns-then-is_busy c =
-    let sound_record : in_range c.args.connection ≡ true = held _ _ c.is_in_range.ensures c.if-not-is_in_range.false-raw in
-    let numbers : (let a = c.args in ask_in_range a.code a.ttl a.nonce a.rtt (length a.request.now) ≡ true) = held _ _ c.ask_in_range.ensures c.if-not-ask_in_range.false-raw in
-    let later : (let a = c.args in is_before a.time a.connection.last_request ≡ false) = sym c.is_before.ensures ∙ c.if-is_before.false in
     let a = c.args in
+    let sound_record : in_range a.connection ≡ true = sym c.is_in_range.ensures ∙ c.if-not-is_in_range.false in
+    let numbers : ask_in_range a.code a.ttl a.nonce a.rtt (length a.request.now) ≡ true =
+    sym c.ask_in_range.ensures ∙ c.if-not-ask_in_range.false in
+    let later : is_before a.time a.connection.last_request ≡ false = sym c.is_before.ensures ∙ c.if-is_before.false in
     let both = replied (sending a.connection a.request.now)
-    (ask_busy a.connection (wish a.code a.ttl a.qs_ttl a.nonce a.rtt a.time) a.request.now (sound_record) (numbers) (later) (sym c.is_busy.ensures ∙ c.if-is_busy.true)) in
+    (ask_busy a.connection (wish a.code a.ttl a.qs_ttl a.nonce a.rtt a.time) a.request.now sound_record numbers later (sym c.is_busy.ensures ∙ c.if-is_busy.true)) in
     record { answer = both.0; «record» = both.1 }
 
 pub returns-then-is_soon : goal.returns-then-is_soon
 returns-then-is_soon c =
-    let sound_record : in_range c.args.connection ≡ true = held _ _ c.is_in_range.ensures c.if-not-is_in_range.false-raw in
-    let numbers : (let a = c.args in ask_in_range a.code a.ttl a.nonce a.rtt (length a.request.now) ≡ true) = held _ _ c.ask_in_range.ensures c.if-not-ask_in_range.false-raw in
-    let later : (let a = c.args in is_before a.time a.connection.last_request ≡ false) = sym c.is_before.ensures ∙ c.if-is_before.false in
-    let free : is_busy c.args.connection.state ≡ false = sym c.is_busy.ensures ∙ c.if-is_busy.false in
     let a = c.args in
+    let sound_record : in_range a.connection ≡ true = sym c.is_in_range.ensures ∙ c.if-not-is_in_range.false in
+    let numbers : ask_in_range a.code a.ttl a.nonce a.rtt (length a.request.now) ≡ true =
+    sym c.ask_in_range.ensures ∙ c.if-not-ask_in_range.false in
+    let later : is_before a.time a.connection.last_request ≡ false = sym c.is_before.ensures ∙ c.if-is_before.false in
+    let free : is_busy a.connection.state ≡ false = sym c.is_busy.ensures ∙ c.if-is_busy.false in
     let both = replied (sending a.connection a.request.now)
-    (ask_soon a.connection (wish a.code a.ttl a.qs_ttl a.nonce a.rtt a.time) a.request.now (sound_record) (numbers) (later) (free) (sym c.is_soon.ensures ∙ c.if-is_soon.true)) in
+    (ask_soon a.connection (wish a.code a.ttl a.qs_ttl a.nonce a.rtt a.time) a.request.now sound_record numbers later free (sym c.is_soon.ensures ∙ c.if-is_soon.true)) in
     record { answer = both.0; «record» = both.1 }
 
 pub returns : goal.returns
 returns c =
-    let sound_record : in_range c.args.connection ≡ true = held _ _ c.is_in_range.ensures c.if-not-is_in_range.false-raw in
-    let numbers : (let a = c.args in ask_in_range a.code a.ttl a.nonce a.rtt (length a.request.now) ≡ true) = held _ _ c.ask_in_range.ensures c.if-not-ask_in_range.false-raw in
-    let later : (let a = c.args in is_before a.time a.connection.last_request ≡ false) = sym c.is_before.ensures ∙ c.if-is_before.false in
-    let free : is_busy c.args.connection.state ≡ false = sym c.is_busy.ensures ∙ c.if-is_busy.false in
     let a = c.args in
+    let sound_record : in_range a.connection ≡ true = sym c.is_in_range.ensures ∙ c.if-not-is_in_range.false in
+    let numbers : ask_in_range a.code a.ttl a.nonce a.rtt (length a.request.now) ≡ true =
+    sym c.ask_in_range.ensures ∙ c.if-not-ask_in_range.false in
+    let later : is_before a.time a.connection.last_request ≡ false = sym c.is_before.ensures ∙ c.if-is_before.false in
+    let free : is_busy a.connection.state ≡ false = sym c.is_busy.ensures ∙ c.if-is_busy.false in
     let both = replied (sending a.connection a.request.now)
     (ap (λ (d : Connection). answer (sending d c.write.new.option)) c.ask_opened.ensures
-    ∙ ask_sent a.connection (wish a.code a.ttl a.qs_ttl a.nonce a.rtt a.time) a.request.now (sound_record) (numbers) (later) (free) (sym c.is_soon.ensures ∙ c.if-is_soon.false) _ c.write.ensures.buffer) in
+    ∙ ask_sent a.connection (wish a.code a.ttl a.qs_ttl a.nonce a.rtt a.time) a.request.now sound_record numbers later free (sym c.is_soon.ensures ∙ c.if-is_soon.false) _ c.write.ensures.buffer) in
     record { answer = both.0; «record» = both.1 }
