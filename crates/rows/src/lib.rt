@@ -16,7 +16,7 @@ ghost use Rattle.path_rules.specs.Path.Runs.{journey, call_over};
 ghost use Rattle.path_rules.specs.Path.OwnSender.{own_transport};
 ghost use Rattle.path_rules.specs.Rows.Rows.{hop_in_range, hops_summary, hops_call};
 ghost use Rattle.path_rules.specs.Rows.Results.{summary_lent, summary_result, open_for, verdict_result};
-ghost use Rattle.rows.specs.Parts.{last_place, nothing_yet, takes as takesHop, with_hop, gathered, row_in};
+ghost use Rattle.rows.specs.Parts.{last_place, nothing_yet, takes as takes_hop, with_hop, gathered, row_in};
 
 use connection::{fresh, with_state};
 use hops::{
@@ -71,7 +71,7 @@ fn hop_in_range(hop: Hop) -> bool
 
 // Whether one hop more is taken.
 fn takes(whole: bool, count: u32, len: usize, hop: Hop) -> bool
-    ensures { result ≡ takesHop whole count len hop }
+    ensures { result ≡ takes_hop whole count len hop }
 {
     if !whole {
         return false;
