@@ -1,11 +1,14 @@
 #!/usr/bin/env python3
 """Brings this repository's own names to today's Rattle's spelling, once, after its port.py.
 
-usage: tools/spell_names.py [--dry]        at the top of the repository
+usage: tools/spell_names.py [--dry] [--names]        at the top of the repository
+
+--dry writes nothing, --names prints each pair of names. It has run: where docs/PORT.md stands, it does nothing. To
+see what it did, run it on the commit that the first line of docs/PORT.md names, after port.py.
 
 A word (a function of the notation, a lemma, a field, a constructor) is in snake case: `topCode` becomes
 `top_code`, `early-by` becomes `early_by`. A dash stays where it joins two names that are functions of the
-notation, as in `length-row_at`; a lemma that would get its function's name gets `_lem`. Types and modules had
+notation, as in `get_or-sets_other`; a lemma that would get its function's name gets `_lem`. Types and modules had
 upper camel case already. Names of src/, exported C names, strings, inputs and outputs are left alone. The script
 stops, and writes nothing, where two names would fall together.
 """
@@ -46,6 +49,12 @@ def code(text):
 
 
 def main(argv):
+    if set(argv) - {"--dry", "--names"}:
+        print(__doc__)
+        return 2
+    if os.path.exists("docs/PORT.md"):
+        print("tools/spell_names.py has run in this repository (docs/PORT.md): nothing was changed")
+        return 1
     dry = "--dry" in argv
     antt = files("crates/*/specs/**/*.antt", "crates/*/proofs/**/*.antt")
     walks = [f for f in antt if os.path.basename(f) == "Proof.antt"]
