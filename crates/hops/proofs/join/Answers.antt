@@ -39,6 +39,6 @@ returns c =
     simp (
       held _ _ c.summary_in_range.ensures c.if-not-summary_in_range.false-raw,
       held _ _ c.summary_in_range-2.ensures c.if-not-summary_in_range-2.false-raw,
-      le-leb (c.args.a.routers + c.args.b.routers) 64 (omega (arith, c.if-a-b-gt-MOST_ROUTERS.false)),
+      le-leb (c.args.a.routers + c.args.b.routers) 64 (omega arith),
       c.lesser.ensures,
     )

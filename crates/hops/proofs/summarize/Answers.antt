@@ -17,4 +17,4 @@ pub returns-then-found-row : goal.returns-then-found-row
 returns-then-found-row c = sym (ap summed (no_row c.args.row.now c.survey-found.result.end c.survey-found.ensures.end (λ z. absurd (omega (arith, c.if-found-row.true)))))
 
 pub returns : goal.returns
-returns c = ap answer c.survey-found.ensures.sum ∙ sym (ap summed (whole_row c.args.row.now c.survey-found.result.end c.survey-found.ensures.end (omega (arith, c.if-found-row.false))))
+returns c = ap answer c.survey-found.ensures.sum ∙ sym (ap summed (whole_row c.args.row.now c.survey-found.result.end c.survey-found.ensures.end (omega arith)))

@@ -4,7 +4,7 @@ use mathlib.Core.Bool.{true}
 use mathlib.Core.Path.{◌≡◌}
 use native.Mathlib.Omega.{arith}
 use borrow.Author.Tests.{le-leb, lt-leb}
-use lib.ListN.{length}
+use lib.ListN.{length, get_or}
 use Rattle.common.proofs.Choice.{held, failed}
 use Rattle.wire_rules.specs.Ipv4.Checks.{well_formed}
 use Rattle.wire_rules.proofs.Ipv4.HeaderLaws.{form}
@@ -39,4 +39,4 @@ pub returns : goal.returns
 returns c =
     let well : (let p = c.args.packet.now in well_formed (length p) p ≡ true) = held _ _ c.well_formed-2.ensures c.if-not-well_formed.false-raw in
     let e = well in
-    let t = lt-leb _ 1 c.if-ttl-le1.false in record { answer = simp (e, t); packet = simp (e, t) c.seal.ensures }
+    let t = lt-leb (get_or c.args.packet.now 8 0) 1 (omega arith) in record { answer = simp (e, t); packet = simp (e, t) c.seal.ensures }
