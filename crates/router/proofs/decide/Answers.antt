@@ -23,5 +23,5 @@ returns-in-Is c =
     let a = c.args in
     let p = c.requires in
     approved_by a.ceiling a.fresh a.request _ c.lesser-rate.ensures p.0 p.1 (record { ceiling_fits = p.2; fresh_fits = p.3 }) _ _
-    c.if-request-eq0.false c.if-rate-eq0.false c.wrapping_sub_u8.ensures.value (omega arith)
+    c.if-request-eq0.false (λ z. omega (arith, z)) c.wrapping_sub_u8.ensures.value (omega arith)
     (sym (ap nonce_told c.in-Is.is) ∙ c.after_lowering.ensures)
