@@ -6,9 +6,9 @@
  * Each router may lower the rate or deny the request, the receiver reports what is left of it in a
  * TCP option, and the sender believes the report only if every router on the path took part.
  *
- * Link with the archive that `rt lib` writes in crates/gateway:
+ * Link with the archive that `host/archives` writes:
  *
- *     cc loop.c -Iinclude -Lcrates/gateway/out -lgateway
+ *     cc loop.c -Iinclude -Ltarget/staticlib -lgateway
  *
  * An example. `p` holds an IPv4 packet of `n` bytes, from its first header byte on:
  *

@@ -6,14 +6,14 @@
  * summary of the path in three numbers, and the run of a packet from router to router to the
  * receiver and, with the receiver's response, back to the sender.
  *
- * The functions stand in an archive of their own, which `rt lib` writes in crates/rows:
+ * The functions stand in an archive of their own, which `host/archives` writes beside libgateway.a:
  *
- *     cc planner.c -Iinclude -Lcrates/rows/out -lrows
+ *     cc planner.c -Iinclude -Ltarget/staticlib -lrows
  *
  * It needs nothing of libgateway.a. A program that calls functions of both headers links both, in either
  * order: the archives define no name in common but what is private to each.
  *
- *     cc both.c -Iinclude -Lcrates/rows/out -lrows -Lcrates/gateway/out -lgateway
+ *     cc both.c -Iinclude -Ltarget/staticlib -lrows -lgateway
  *
  * An example: three routers, of which the second does not know Quick-Start. `p` holds the packet that
  * the sender would send, `n` bytes and at most 1500, with IP TTL `ttl` and a request for `code` with

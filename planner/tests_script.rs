@@ -122,7 +122,9 @@ fn copy_tree(place: &Place, tree: &Path) -> std::io::Result<()> {
     fs::create_dir_all(tree.join("planner"))?;
     fs::create_dir_all(tree.join("stub"))?;
     fs::create_dir_all(tree.join("crates/qspath"))?;
-    fs::create_dir_all(tree.join("crates/gateway"))?;
+    fs::create_dir_all(tree.join("crates/gateway_c"))?;
+    fs::create_dir_all(tree.join("host"))?;
+    fs::copy(place.root.join("host/archives"), tree.join("host/archives"))?;
     for entry in fs::read_dir(place.root.join("planner"))? {
         let entry = entry?;
         let name = entry.file_name();
@@ -134,7 +136,7 @@ fn copy_tree(place: &Place, tree: &Path) -> std::io::Result<()> {
     let body = format!(
         "echo \"$PWD $*\" >>'{root}/stub/log'\necho built\ncase \"${{PWD##*/}} $*\" in\n\
          'qspath run') mkdir -p out; cp '{program}' out/qspath ;;\n\
-         'gateway lib') mkdir -p out; cp '{archive}' out/libgateway.a ;;\n\
+         'gateway_c lib') mkdir -p out; cp '{archive}' out/libgateway_c.a ;;\n\
          *) exit 1 ;;\nesac\n"
     );
     script(&tree.join("stub/rt"), &body);
@@ -161,7 +163,7 @@ fn first_run(report: &mut Report, place: &Place) {
     let found = ended(&mut in_tree(&tree, &["-"]), input);
     let says = |words: &str| found.stderr.contains(words);
     let said = says("crates/qspath/out/qspath is missing: running 'rt run' in crates/qspath")
-        && says("crates/gateway/out/libgateway.a is missing: running 'rt lib' in crates/gateway")
+        && says("target/staticlib/libgateway.a is missing: running 'host/archives gateway'")
         && says("takes some minutes the first time");
     report.test("qsplan, first run: what is missing is said", said);
     same(
@@ -172,7 +174,7 @@ fn first_run(report: &mut Report, place: &Place) {
     );
     let log = fs::read_to_string(tree.join("stub/log")).unwrap_or_default();
     let root = tree.display();
-    let wanted = format!("{root}/crates/qspath run\n{root}/crates/gateway lib\n");
+    let wanted = format!("{root}/crates/qspath run\n{root}/crates/gateway_c lib\n");
     same(report, "qsplan, first run: rt is run in the crates' folders", log, wanted.clone());
     let built =
         || fs::metadata(tree.join("target/planner/qsplan-tool")).and_then(|file| file.modified()).ok();

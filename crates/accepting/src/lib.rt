@@ -20,7 +20,7 @@ use refusals::{Refusal, in_range};
 use sender_rules::{Before, Connection, OpenRequest, State};
 use wire_rules::Response;
 
-#[derive(Drop)]
+#[derive(Clone, Copy)]
 pub enum ResponseAnswer {
     // The rate accepted, a code from 1 to the one asked.
     Accepted(u32),
@@ -28,7 +28,7 @@ pub enum ResponseAnswer {
 }
 
 // What a response gets, and the record afterwards.
-#[derive(Drop)]
+#[derive(Clone, Copy)]
 pub struct ResponseTaken {
     pub answer: ResponseAnswer,
     pub connection: Connection,

@@ -14,7 +14,7 @@ use refusals::{Answer, Refusal, in_range};
 use sender_rules::{Connection, Moment, OpenRequest, State};
 
 // What asking answers, and the record afterwards.
-#[derive(Drop)]
+#[derive(Clone, Copy)]
 pub struct Asking {
     pub answer: Answer,
     pub connection: Connection,

@@ -20,8 +20,8 @@ use Rattle.sender_rules.specs.Congestion.Echoes.{halved}
 use Rattle.sender_rules.specs.Congestion.Phases.{is_early, phase_in_range, is_recent, or_greater, pipe_ack, validated, is_validated, is_over, started_at, run_on}
 use Rattle.cases.specs.Table.{same_figures, holds, WTable}
 
-pub wTable : WTable
+pub w_table : WTable
 unfolding same_figures holds within rate_of greatest_up_to rounded_down transport_in_range window_segments fields_fit option_bytes word_of fields_up_to lowered agree is_request ttl_diff is_response
     length_fits look walk_on header_length ones_add ones_sum with_checksum checksum_of sealed well_formed one_less decided router_in_range report_on receiver_in_range
     is_before state_in_range bytes_in_range in_range ask_in_range is_busy is_soon judged halved is_early phase_in_range is_recent or_greater pipe_ack validated is_validated is_over started_at run_on
-wTable = refl
+w_table = refl

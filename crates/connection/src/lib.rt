@@ -19,7 +19,7 @@ pub const MOST_BYTES: u64 = 1_099_511_627_776;
 pub const MOST_SAMPLES: usize = 5;
 
 // What making a record answers, and the record: after a refusal one that every call refuses.
-#[derive(Drop)]
+#[derive(Clone, Copy)]
 pub struct Opened {
     pub answer: Answer,
     pub connection: Connection,

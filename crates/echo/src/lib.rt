@@ -16,7 +16,7 @@ use std::num::wrapping_sub_u32;
 // Half of the sequence numbers: one that is ahead of another by 1 or more, and by less than this, comes after it.
 const HALF_SEQUENCE: u32 = 2_147_483_648;
 
-#[derive(Drop)]
+#[derive(Clone, Copy)]
 pub enum EchoAnswer {
     // Window and ssthresh were set anew, and the mark.
     Reacted,
@@ -26,7 +26,7 @@ pub enum EchoAnswer {
 }
 
 // What an ECN echo gets, and the record afterwards.
-#[derive(Drop)]
+#[derive(Clone, Copy)]
 pub struct Echoed {
     pub answer: EchoAnswer,
     pub connection: Connection,

@@ -11,7 +11,7 @@ use refusals::{Answer, Refusal};
 use sender_rules::{Connection, State};
 
 // What a first acknowledgement, a loss and giving up answer, and the record afterwards.
-#[derive(Drop)]
+#[derive(Clone, Copy)]
 pub struct Ended {
     pub answer: Answer,
     pub connection: Connection,

@@ -1,6 +1,7 @@
-// The functions exported to C forwarding loops. Each answers with a number: 0 for what was done, 1 to 15 for the
-// refusals of the table, 40 for a receiver that leaves a request unanswered, 41 for a packet that marking would drop.
-// include/quickstart.h tells a caller in C what each function does; here each has the contract of what it stands for.
+// The functions for C forwarding loops, which the crate gateway_c exports under their names. Each answers with a number:
+// 0 for what was done, 1 to 15 for the refusals of the table, 40 for a receiver that leaves a request unanswered, 41 for a
+// packet that marking would drop. include/quickstart.h tells a caller in C what each function does; here each has the
+// contract of what it stands for.
 #![tactic(auto)]
 
 ghost use Rattle.std.specs.Prelude.{◌≡◌, length};
@@ -55,8 +56,7 @@ fn marked_number(answer: Marking) -> u32
 }
 
 // A router without a ledger.
-#[unsafe(no_mangle)]
-pub extern "C" fn qs_router(packet: &mut [u8], ceiling: u32, fresh_nonce: u32) -> u32
+pub fn qs_router(packet: &mut [u8], ceiling: u32, fresh_nonce: u32) -> u32
     ensures result { result ≡ router_result (done (routed (length packet.old) ceiling fresh_nonce packet.old)) }
     ensures packet { packet.new ≡ leaves packet.old (routed (length packet.old) ceiling fresh_nonce packet.old) }
 {
@@ -65,8 +65,7 @@ pub extern "C" fn qs_router(packet: &mut [u8], ceiling: u32, fresh_nonce: u32) -
 
 // A router with a ledger, whose row and stored tick the caller keeps, as he does its allowance. The tick is stored
 // as the router left it, which is as it was where the ledger was not asked or the call was refused.
-#[unsafe(no_mangle)]
-pub extern "C" fn qs_router_ledger(
+pub fn qs_router_ledger(
     packet: &mut [u8],
     ceiling: u32,
     fresh_nonce: u32,
@@ -89,8 +88,7 @@ pub extern "C" fn qs_router_ledger(
 }
 
 // A silent router.
-#[unsafe(no_mangle)]
-pub extern "C" fn qs_silent_router(packet: &mut [u8]) -> u32
+pub fn qs_silent_router(packet: &mut [u8]) -> u32
     ensures result { result ≡ router_result (done (silently_routed (length packet.old) packet.old)) }
     ensures packet { packet.new ≡ leaves packet.old (silently_routed (length packet.old) packet.old) }
 {
@@ -98,8 +96,7 @@ pub extern "C" fn qs_silent_router(packet: &mut [u8]) -> u32
 }
 
 // A receiver, with room for its response.
-#[unsafe(no_mangle)]
-pub extern "C" fn qs_receiver(packet: &[u8], ceiling: u32, response: &mut [u8]) -> u32
+pub fn qs_receiver(packet: &[u8], ceiling: u32, response: &mut [u8]) -> u32
     ensures result { result ≡ receiver_result (reaction_in (received (length packet.now) ceiling (length response.old) packet.now)) }
     ensures buffer { response.new ≡ response_after response.old (received (length packet.now) ceiling (length response.old) packet.now) }
 {
@@ -107,8 +104,7 @@ pub extern "C" fn qs_receiver(packet: &[u8], ceiling: u32, response: &mut [u8]) 
 }
 
 // ECN marking.
-#[unsafe(no_mangle)]
-pub extern "C" fn qs_mark(packet: &mut [u8]) -> u32
+pub fn qs_mark(packet: &mut [u8]) -> u32
     ensures result { result ≡ mark_result (mark_reply packet.old) }
     ensures packet { packet.new ≡ marked_packet packet.old }
 {

@@ -29,26 +29,26 @@ pub const SILENT: u8 = 3;
 pub const SILENT_LENGTH: usize = 1;
 
 // What stands at a place of a row: a router's whole record with its ceiling in range, or none.
-#[derive(Drop)]
+#[derive(Clone, Copy)]
 pub enum Front {
     Of(Router),
     Nothing,
 }
 
-#[derive(Drop)]
+#[derive(Clone, Copy)]
 pub enum SummaryAnswer {
     Of(Summary),
     Refused(Refusal),
 }
 
 // The summary of the records of routers at the start of some bytes, as many as there are up to 64, and where they end.
-#[derive(Drop)]
+#[derive(Clone, Copy)]
 pub struct Extent {
     pub summary: Summary,
     pub end: usize,
 }
 
-#[derive(Drop)]
+#[derive(Clone, Copy)]
 pub enum Verdict {
     // A router met an IP TTL of 0 or 1.
     Lost,
@@ -59,7 +59,7 @@ pub enum Verdict {
     Accepted(u32),
 }
 
-#[derive(Drop)]
+#[derive(Clone, Copy)]
 pub enum VerdictAnswer {
     Of(Verdict),
     Refused(Refusal),

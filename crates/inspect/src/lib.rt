@@ -16,7 +16,7 @@ use refusals::Refusal;
 use walk::Finding;
 use wire_rules::{Place, Request};
 
-#[derive(Drop)]
+#[derive(Clone, Copy)]
 pub enum Sight {
     Of(Seen),
     Refused(Refusal),

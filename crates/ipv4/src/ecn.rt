@@ -10,7 +10,7 @@ use refusals::Refusal;
 // The byte that holds both bits: CE is its lowest, ECT the one above it.
 const ECN_BYTE: usize = 1;
 
-#[derive(Drop)]
+#[derive(Clone, Copy)]
 pub enum Marking {
     Marked,
     // The transport is not ECN-capable: the packet is to be dropped in place of being marked.

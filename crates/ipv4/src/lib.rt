@@ -43,13 +43,13 @@ const ALL_ONES: u32 = 65_535;
 // 2^16: what does not fit 16 bits any more.
 const CARRY: u32 = 65_536;
 
-#[derive(Drop)]
+#[derive(Clone, Copy)]
 pub enum Checked {
     HeaderLength(usize),
     Refused(Refusal),
 }
 
-#[derive(Drop)]
+#[derive(Clone, Copy)]
 pub enum IpTtl {
     Is(u8),
     Refused(Refusal),

@@ -22,20 +22,20 @@ pub const MOST_SLOTS: usize = 64;
 // The greatest allowance, in bits a second: 2^40.
 pub const MOST_ALLOWANCE: u64 = 1_099_511_627_776;
 
-#[derive(Drop)]
+#[derive(Clone, Copy)]
 pub enum SetUp {
     Ready(Ledger),
     Refused(Refusal),
 }
 
 // What moving on answers, and the record afterwards: the one that was given, after a refusal.
-#[derive(Drop)]
+#[derive(Clone, Copy)]
 pub struct Moved {
     pub answer: Answer,
     pub ledger: Ledger,
 }
 
-#[derive(Drop)]
+#[derive(Clone, Copy)]
 pub enum Grant {
     // The code granted: 0 where there is no room for any. The ledger has moved on all the same.
     Code(u32),
@@ -43,7 +43,7 @@ pub enum Grant {
 }
 
 // What asking answers, and the record afterwards: the one that was given, after a refusal.
-#[derive(Drop)]
+#[derive(Clone, Copy)]
 pub struct Asked {
     pub answer: Grant,
     pub ledger: Ledger,

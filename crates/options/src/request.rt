@@ -14,7 +14,7 @@ use wire_rules::Request;
 // The option's type.
 pub const REQUEST: u8 = 25;
 
-#[derive(Drop)]
+#[derive(Clone, Copy)]
 pub enum Reading {
     Request(Request),
     Refused(Refusal),

@@ -15,7 +15,7 @@ use wire_rules::Response;
 // The option's kind.
 const RESPONSE: u8 = 27;
 
-#[derive(Drop)]
+#[derive(Clone, Copy)]
 pub enum Reading {
     Response(Response),
     Refused(Refusal),

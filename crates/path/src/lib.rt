@@ -38,7 +38,7 @@ pub const MSS: u64 = 1460;
 pub const HEADERS: u64 = 40;
 
 // What a run answers, and the sender's record afterwards.
-#[derive(Drop)]
+#[derive(Clone, Copy)]
 pub struct Ran {
     pub answer: VerdictAnswer,
     pub connection: Connection,

@@ -26,7 +26,7 @@ const LONGEST_PERIOD: u64 = 300_000_000;
 // The largest initial window, in bytes.
 const LARGEST_INITIAL: u64 = 65_535;
 
-#[derive(Drop)]
+#[derive(Clone, Copy)]
 pub enum PhaseAnswer {
     Validated,
     NonValidated,
@@ -34,7 +34,7 @@ pub enum PhaseAnswer {
 }
 
 // The phase, and the record afterwards.
-#[derive(Drop)]
+#[derive(Clone, Copy)]
 pub struct Phased {
     pub answer: PhaseAnswer,
     pub connection: Connection,

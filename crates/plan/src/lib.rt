@@ -19,7 +19,7 @@ use path::{HEADERS, MSS, RTT, SSTHRESH, WINDOW, run};
 use rates::TOP_CODE;
 
 // A line's bytes stand in the first `len` places.
-#[derive(Drop)]
+#[derive(Clone, Copy)]
 pub struct Text {
     pub bytes: [u8; 16],
     pub len: usize,

@@ -27,19 +27,19 @@ const BASE_BYTES: u64 = 5_000;
 // Microseconds in a second.
 const MICROSECONDS: u64 = 1_000_000;
 
-#[derive(Drop)]
+#[derive(Clone, Copy)]
 pub enum Rate {
     BitsPerSecond(u64),
     Refused(Refusal),
 }
 
-#[derive(Drop)]
+#[derive(Clone, Copy)]
 pub enum Code {
     Is(u32),
     Refused(Refusal),
 }
 
-#[derive(Drop)]
+#[derive(Clone, Copy)]
 pub enum Window {
     Of(u64),
     Refused(Refusal),

@@ -13,7 +13,7 @@ use rates::{TOP_CODE, lesser};
 use refusals::Refusal;
 use wire_rules::Request;
 
-#[derive(Drop)]
+#[derive(Clone, Copy)]
 pub enum Received {
     // The response was written.
     Answered,

@@ -28,7 +28,7 @@ use refusals::{Answer, Refusal};
 use std::num::wrapping_sub_u8;
 use wire_rules::Request;
 
-#[derive(Drop)]
+#[derive(Clone, Copy)]
 pub enum Routed {
     Done,
     Refused(Refusal),
@@ -36,7 +36,7 @@ pub enum Routed {
 
 // What a router with a ledger answers, and the ledger's record afterwards: the one that was given, after a
 // refusal and where the ledger was not asked.
-#[derive(Drop)]
+#[derive(Clone, Copy)]
 pub struct RoutedByLedger {
     pub answer: Routed,
     pub ledger: Ledger,

@@ -299,8 +299,7 @@ fn verdict_number(ran: Ran) -> u32
 }
 
 // The summary of a row of hops, into a buffer of three numbers.
-#[unsafe(no_mangle)]
-pub extern "C" fn qs_path_summary(row: &[Hop], summary: &mut [u32]) -> u32
+pub fn qs_path_summary(row: &[Hop], summary: &mut [u32]) -> u32
     ensures result { result ≡ summary_result (done (summary_lent summary.old (hops_summary most_routers row.now))) }
     ensures summary { summary.new ≡ leaves summary.old (summary_lent summary.old (hops_summary most_routers row.now)) }
 {
@@ -309,8 +308,7 @@ pub extern "C" fn qs_path_summary(row: &[Hop], summary: &mut [u32]) -> u32
 
 // The run of a path over a row of hops, for a request that is open, by its code, starting TTL Diff and nonce, and a packet
 // with a request, which need not be that one: the sender judges what comes back.
-#[unsafe(no_mangle)]
-pub extern "C" fn qs_path_run(
+pub fn qs_path_run(
     packet: &mut [u8],
     row: &[Hop],
     ceiling: u32,

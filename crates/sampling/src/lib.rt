@@ -14,7 +14,7 @@ use refusals::{Answer, Refusal};
 use sender_rules::{Connection, Sample};
 
 // What adding a sample answers, and the record afterwards.
-#[derive(Drop)]
+#[derive(Clone, Copy)]
 pub struct Sampled {
     pub answer: Answer,
     pub connection: Connection,

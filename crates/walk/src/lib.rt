@@ -19,7 +19,7 @@ const NO_OPERATION: u8 = 1;
 // The least length byte: it counts the type and itself.
 const LEAST_LENGTH: usize = 2;
 
-#[derive(Drop)]
+#[derive(Clone, Copy)]
 pub enum Finding {
     Found(Place),
     Refused(Refusal),

@@ -35,7 +35,7 @@ pub in_ranges : (slots allowance : ℕ) → InRange slots allowance → link_in_
 unfolding link_in_range
 in_ranges slots allowance r = simp (in_within 1 slots most_slots r.slots_low r.slots_high, le-leb allowance most_allowance r.allowance_high)
 
--- ---- a link that is without fault: what set_up_lem and every accepted call leave
+-- ---- a link that is without fault: what set-up and every accepted call leave
 
 pub record Sound (link : Link) : Type 0 where
   pub ranges : InRange (length link.row) link.ledger.allowance

@@ -1,4 +1,4 @@
--- Laws of a well_formed_lem header: what it says of the lengths, and which bytes it depends on. Assumes nothing.
+-- Laws of a well-formed header: what it says of the lengths, and which bytes it depends on. Assumes nothing.
 use Prim.Native.Nat.{ℕ, ◌*◌, ◌%◌, ◌≤◌}
 use mathlib.Core.Bool.{true, ◌&&◌}
 use mathlib.Core.List.{List}

@@ -57,7 +57,7 @@ passed_is reach packet new e =
     let inner = let_through (leb (ip_ttl packet) 1) new _ 6 outer.1 in
     (outer.0, leb-false (ip_ttl packet) 1 inner.0, same_answer inner.1)
 
--- the store of a byte that no well_formed_lem header depends on
+-- the store of a byte that no well-formed header depends on
 pub set_form : (reach : ℕ) (packet : List ℕ) (i a : ℕ) → (i ≡ 0 → ⊥) → (i ≡ 2 → ⊥) → (i ≡ 3 → ⊥)
     → (well_formed reach (set packet i a) ≡ well_formed reach packet) × (header_length (set packet i a) ≡ header_length packet)
 set_form reach packet i a x y z =

@@ -22,7 +22,7 @@ use Rattle.wire_rules.specs.Ipv4.Claims.{OutsideChecksum, ValidChecksum, word_to
 use Rattle.wire_rules.proofs.Ipv4.ChecksumLaws.{folded, checksum_is, fills, fills_only, fills_all, sum_field, sealed_sum, field_twice, take_field, bytes_field, length_field_lem, in_steps, length_sealed}
 use Rattle.wire_rules.proofs.Ipv4.HeaderLaws.{form, formed, least, length_kept, checked_when}
 
--- ---- packets that agree in what a well_formed_lem header depends on
+-- ---- packets that agree in what a well-formed header depends on
 
 pub same_form : (reach : ℕ) (p q : List ℕ) → length q ≡ length p → get_or q 0 0 ≡ get_or p 0 0 → get_or q 2 0 ≡ get_or p 2 0 → get_or q 3 0 ≡ get_or p 3 0
     → (well_formed reach q ≡ well_formed reach p) × (header_length q ≡ header_length p)

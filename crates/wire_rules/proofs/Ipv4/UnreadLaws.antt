@@ -69,7 +69,7 @@ module _ (p q : List ℕ) (s : SameHeader p q) where
       by_own true e = (formed_too reach p q s e).0
       by_own false e = by_other e (well_formed reach q) refl ∙ sym e
 
-  -- of a well_formed_lem packet
+  -- of a well-formed packet
   module _ (reach : ℕ) (w : well_formed reach p ≡ true) where
     pub at_first : (i : ℕ) → i < least_header → get_or q i 0 ≡ get_or p i 0
     at_first = let f = form reach p w in first_bytes p q s.header (least reach p f) f.inside

@@ -65,7 +65,7 @@ pub record Sealing : Type 0 where
 
 -- ---- what is read of a packet
 
--- a well_formed_lem header, by RFC 791's places: version and length field in byte 0, the total length in bytes 2 and 3
+-- a well-formed header, by RFC 791's places: version and length field in byte 0, the total length in bytes 2 and 3
 pub record HeaderForm (reach : ℕ) (packet : List ℕ) : Type 0 where
   pub long : 20 ≤ length packet
   pub version : get_or packet 0 0 / 16 ≡ 4
@@ -92,7 +92,7 @@ pub record Reading : Type 0 where
   pub area_at : (packet : List ℕ) (i : ℕ) → 20 + i < header_length packet → get_or (options_of packet) i 0 ≡ get_or packet (20 + i) 0
   -- the total length may reach as far as is said, and that is all that the reach is for
   pub reach_only : (reach : ℕ) (packet : List ℕ) → well_formed reach packet ≡ (well_formed (total_length packet) packet && leb (total_length packet) reach)
-  -- bytes behind the header are not read: the header of a well_formed_lem packet is by itself answered alike, and passed on alike
+  -- bytes behind the header are not read: the header of a well-formed packet is by itself answered alike, and passed on alike
   pub checked_alike : (reach : ℕ) (packet : List ℕ) → well_formed reach packet ≡ true → header_checked reach (header_of packet) ≡ header_checked reach packet
   pub located_alike : (reach : ℕ) (packet : List ℕ) → well_formed reach packet ≡ true → located reach (header_of packet) ≡ located reach packet
   pub passed_alike : (reach : ℕ) (packet new : List ℕ) → passed_on reach packet ≡ answer new → passed_on reach (header_of packet) ≡ answer (header_of new)

@@ -10,7 +10,7 @@ use Rattle.wire_rules.specs.Walk.Walks.{look, go_on, walk}
 
 -- ---- what areas are made of
 
--- a well_formed_lem option of another type than 25, and neither an end nor a no-operation: its length byte is its length
+-- a well-formed option of another type than 25, and neither an end nor a no-operation: its length byte is its length
 pub record Other (option : List ℕ) : Type 0 where
   pub no_end : get_or option 0 0 ≡ 0 → ⊥
   pub no_filler : get_or option 0 0 ≡ 1 → ⊥
@@ -18,7 +18,7 @@ pub record Other (option : List ℕ) : Type 0 where
   pub long : 2 ≤ length option
   pub told : get_or option 1 0 ≡ length option
 
--- bytes made of no-operations and well_formed_lem options of other types
+-- bytes made of no-operations and well-formed options of other types
 pub data Skipped : List ℕ → Type 0 where
   none : Skipped []
   filler : (rest : List ℕ) → Skipped rest → Skipped (1 ∷ rest)
