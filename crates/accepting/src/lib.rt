@@ -1,174 +1,70 @@
-// The sender takes the response to its request, and accepts the rate or not. The call takes the connection's record by
-// value and hands it back beside its answer; a refused call hands it back unchanged, but for 13, 14 and 15, which end
-// the open request.
+// The sender takes the response to its request, and accepts the rate or not. A refused call leaves the connection's record
+// as it was, but for 13, 14 and 15, which end the open request.
 #![tactic(auto)]
 
-ghost use Rattle.std.specs.Prelude.{◌≡◌, true, ◌≤◌, ◌<◌, length};
+ghost use Rattle.std.specs.Prelude.{◌≡◌, ◌≤◌, ◌<◌};
 ghost use Rattle.wire_rules.specs.Rates.Steps.{top_code};
-ghost use Rattle.wire_rules.specs.Rates.Window.{transport_in_range, window_bytes};
-ghost use Rattle.wire_rules.specs.Options.Wire.{option_length, nonce_limit};
-ghost use Rattle.common.specs.Choice.{within};
-ghost use Rattle.sender_rules.specs.Sender.Calls.{transport, judged, taken, granted, after_response, sender_calls};
-ghost use Rattle.accepting.specs.Replies.{accepted_told, judgement_told};
+ghost use Rattle.wire_rules.specs.Options.Wire.{nonce_limit};
+ghost use Rattle.refusals.specs.Replies.{told};
+ghost use Rattle.sender_rules.specs.Sender.Calls.{judged, sender_calls};
 
-use connection::{is_in_range, with_state};
-use nonce::Agreement;
-use options::response::Reading;
+use connection::is_in_range;
 use options::{OPTION_LENGTH, response};
-use rates::{Window, transport_in_range, window_bytes};
+use rates::{transport_in_range, window_bytes};
 use refusals::{Refusal, in_range};
 use sender_rules::{Before, Connection, OpenRequest, State};
-use wire_rules::Response;
+use wire_rules::{Response, Transport};
 
-#[derive(Clone, Copy)]
-pub enum ResponseAnswer {
-    // The rate accepted, a code from 1 to the one asked.
-    Accepted(u32),
-    Refused(Refusal),
-}
-
-// What a response gets, and the record afterwards.
-#[derive(Clone, Copy)]
-pub struct ResponseTaken {
-    pub answer: ResponseAnswer,
-    pub connection: Connection,
-}
-
-#[derive(Drop)]
-enum Judgement {
-    // The response fits the open request.
-    Fits,
-    Refused(Refusal),
-}
-
-// Judges a response by the open request: its rate, its TTL Diff, then its nonce in the fields up to that rate.
-fn judge(request: OpenRequest, response: Response) -> Judgement
+// Judges a response by the open request: its rate, its TTL Diff, then its nonce in the fields up to that rate. What it
+// answers is the rate.
+#[tactic(auto, unfolding(sender_rules::specs::Sender::Calls::judged), using(crate::proofs::CallLaws::agreeing))]
+fn judge(request: OpenRequest, response: Response) -> Result<u32, Refusal>
     requires { (request.code ≤ top_code) × (request.nonce < nonce_limit) × (response.nonce < nonce_limit) }
-    ensures { judgement_told response.rate result ≡ judged request response }
+    ensures { told result ≡ judged request response }
 {
     if !in_range(1, response.rate as u64, request.code as u64) {
-        return Judgement::Refused(Refusal::WrongRate);
+        return Err(Refusal::WrongRate);
     }
     if response.ttl_diff != request.ttl_diff {
-        return Judgement::Refused(Refusal::WrongTtlDiff);
+        return Err(Refusal::WrongTtlDiff);
     }
-    match nonce::agree(response.rate, request.nonce, response.nonce) {
-        Agreement::Same => Judgement::Fits,
-        Agreement::Different => Judgement::Refused(Refusal::WrongNonce),
-        Agreement::Refused(why) => Judgement::Refused(why),
+    if !nonce::agree(response.rate, request.nonce, response.nonce)? {
+        return Err(Refusal::WrongNonce);
     }
-}
-
-// The record after an accepted rate: the Quick-Start window, and quick, where that is above the window; else idle.
-fn grant(connection: Connection, rate: u32, rtt: u64, mss: u64, headers: u64) -> Connection
-    requires { (within 1 rate top_code ≡ true) × (transport_in_range rtt mss headers ≡ true) }
-    ensures { result ≡ granted connection (window_bytes rate rtt mss headers) }
-{
-    match window_bytes(rate, rtt, mss, headers) {
-        Window::Refused(_) => connection,
-        Window::Of(window) => {
-            if window <= connection.window {
-                return with_state(connection, State::Idle);
-            }
-            let mut quick = with_state(
-                connection,
-                State::Quick(Before {
-                    window: connection.window,
-                }),
-            );
-            quick.window = window;
-            quick
-        }
-    }
-}
-
-// What a response gets that was read while asked.
-fn settle(
-    connection: Connection,
-    request: OpenRequest,
-    response: Response,
-    rtt: u64,
-    mss: u64,
-    headers: u64,
-) -> ResponseTaken
-    requires { (request.code ≤ top_code) × (request.nonce < nonce_limit) × (response.nonce < nonce_limit) × (transport_in_range rtt mss headers ≡ true) }
-    ensures answer { accepted_told result.answer ≡ judged request response }
-    ensures record { result.connection ≡ after_response connection (transport rtt mss headers) (judged request response) }
-{
-    match judge(request, response) {
-        Judgement::Fits => ResponseTaken {
-            answer: ResponseAnswer::Accepted(response.rate),
-            connection: grant(connection, response.rate, rtt, mss, headers),
-        },
-        Judgement::Refused(why) => ResponseTaken {
-            answer: ResponseAnswer::Refused(why),
-            connection: with_state(connection, State::Idle),
-        },
-    }
-}
-
-// What eight bytes get while asked.
-fn take_while_asked(
-    connection: Connection,
-    request: OpenRequest,
-    response: &[u8],
-    rtt: u64,
-    mss: u64,
-    headers: u64,
-) -> ResponseTaken
-    requires { (request.code ≤ top_code) × (request.nonce < nonce_limit) × (transport_in_range rtt mss headers ≡ true) × (length response.now ≡ option_length) }
-    ensures answer { accepted_told result.answer ≡ taken request response.now }
-    ensures record { result.connection ≡ after_response connection (transport rtt mss headers) (taken request response.now) }
-{
-    match response::read(response) {
-        Reading::Refused(why) => ResponseTaken {
-            answer: ResponseAnswer::Refused(why),
-            connection,
-        },
-        Reading::Response(read) => settle(connection, request, read, rtt, mss, headers),
-    }
+    Ok(response.rate)
 }
 
 // Takes the response to the open request from a buffer of eight bytes. Accepted or refused with 13, 14 or 15, the
-// request is open no longer.
+// request is open no longer. Where the Quick-Start window of the rate accepted is above the window, it becomes the window
+// and the connection is quick.
+#[tactic(auto, unfolding(common::specs::Choice::within, sender_rules::specs::Sender::Calls::granted), using(sender_rules::proofs::Sender::CallLaws::ends, crate::proofs::CallLaws::asked_in, crate::proofs::CallLaws::fits_top, crate::proofs::CallLaws::window_is, crate::proofs::CallLaws::not_asked))]
 pub fn take_response(
-    connection: Connection,
+    connection: &mut Connection,
     response: &[u8],
-    rtt: u64,
-    mss: u64,
-    headers: u64,
-) -> ResponseTaken
-    ensures answer { accepted_told result.answer ≡ (sender_calls.take_response connection response.now (transport rtt mss headers)).said }
-    ensures record { result.connection ≡ (sender_calls.take_response connection response.now (transport rtt mss headers)).left }
+    transport: Transport,
+) -> Result<u32, Refusal>
+    ensures answer { told result ≡ (sender_calls.take_response connection.old response.now transport).said }
+    ensures record { connection.new ≡ (sender_calls.take_response connection.old response.now transport).left }
 {
-    if !is_in_range(connection) {
-        return ResponseTaken {
-            answer: ResponseAnswer::Refused(Refusal::OutOfRange),
-            connection,
-        };
+    if !is_in_range(*connection)
+        || !transport_in_range(transport)
+        || response.len() != OPTION_LENGTH
+    {
+        return Err(Refusal::OutOfRange);
     }
-    if !transport_in_range(rtt, mss, headers) {
-        return ResponseTaken {
-            answer: ResponseAnswer::Refused(Refusal::OutOfRange),
-            connection,
-        };
+    let State::Asked(request) = connection.state else {
+        return Err(Refusal::WrongState);
+    };
+    let read = response::read(response)?;
+    connection.state = State::Idle;
+    let rate = judge(request, read)?;
+    // Of a rate from 1 to 15 the window is never refused.
+    let window = window_bytes(rate, transport)?;
+    if window > connection.window {
+        connection.state = State::Quick(Before {
+            window: connection.window,
+        });
+        connection.window = window;
     }
-    if response.len() != OPTION_LENGTH {
-        return ResponseTaken {
-            answer: ResponseAnswer::Refused(Refusal::OutOfRange),
-            connection,
-        };
-    }
-    let state = connection.state;
-    match state {
-        State::Idle => ResponseTaken {
-            answer: ResponseAnswer::Refused(Refusal::WrongState),
-            connection,
-        },
-        State::Quick(_) => ResponseTaken {
-            answer: ResponseAnswer::Refused(Refusal::WrongState),
-            connection,
-        },
-        State::Asked(request) => take_while_asked(connection, request, response, rtt, mss, headers),
-    }
+    Ok(rate)
 }

@@ -1,7 +1,7 @@
 -- The cases W1 to W14 of document 01 ("Cases") as one table, and the claim that all of them hold. What is found is computed by the
 -- definitions that the contracts cite. Assumes nothing.
 use Rattle.std.specs.Prelude.{ℕ, zero, suc, Bool, true, false, ◌&&◌, List, [], ◌∷◌, ◌≡◌, eqb, length, replicate}
-use Rattle.std.proofs.Math.Option.{some}
+use Rattle.std.specs.Prelude.{None, Some}
 use Rattle.common.specs.Choice.{pick}
 use Rattle.refusals.specs.Reply.{Reply, answer, refuse, and_then, Outcome}
 use Rattle.wire_rules.specs.Rates.Steps.{rounded_down}
@@ -14,10 +14,8 @@ use Rattle.wire_rules.specs.Ipv4.Headers.{options_place}
 use Rattle.wire_rules.specs.Ipv4.Views.{option_at, put}
 use Rattle.gateway_rules.specs.Router.Routers.{routed, silently_routed}
 use Rattle.gateway_rules.specs.Receiver.Reports.{received, response_after}
-use Rattle.sender_rules.specs.declared.Moment.{Moment}
-use Rattle.sender_rules.specs.declared.Moment.TheVariants.{Absent, At}
 use Rattle.sender_rules.specs.declared.Connection.{Connection}
-use Rattle.sender_rules.specs.Connections.Records.{fresh_with}
+use Rattle.sender_rules.specs.Connections.Records.{fresh_with, Moment}
 use Rattle.sender_rules.specs.Sender.Calls.{Sending, wish, transport, sender_calls}
 use Rattle.sender_rules.specs.Congestion.Phases.{sample_of}
 use Rattle.sender_rules.specs.Congestion.Calls.{congestion_calls}
@@ -108,7 +106,7 @@ diffs_for came =
 
 -- the packet with QS TTL 0
 abbrev pub packet_at0 : List ℕ
-packet_at0 = put packet (record { ttl = 64; request = some (record { rate = 5; qs_ttl = 0; nonce = 0 }) })
+packet_at0 = put packet (record { ttl = 64; request = Some (record { rate = 5; qs_ttl = 0; nonce = 0 }) })
 
 -- the QS TTL in a packet, and in what a router with ceiling 15 makes of it
 abbrev pub qs_ttls_for : List ℕ → Reply (List ℕ)
@@ -125,8 +123,8 @@ phase_at time c = (congestion_calls.phase (congestion_calls.sample c (sample_of 
 -- window and ssthresh, provided that the period starts again at this time: in W14 neither changes, so that they alone do not show that the
 -- period was over
 abbrev pub started_again : ℕ → Moment → Connection → Reply (List ℕ)
-started_again time Absent c = answer []
-started_again time (At start) c = pick (eqb start time) (two c.window c.ssthresh) (answer [])
+started_again time None c = answer []
+started_again time (Some start) c = pick (eqb start time) (two c.window c.ssthresh) (answer [])
 
 -- from a fresh record: non-validated at time 0, when the period starts, and still at 300,000,001, when it is over (twice 1,000 is less than
 -- either window)

@@ -2,115 +2,51 @@
 // what they answer, a line for each call: its name, its arguments, and its answer or refusal.
 #![tactic(auto)]
 
-use nonce::{Agreement, Nonce};
 use options::{request, response};
-use printing::{bytes, number, say};
-use rates::{Code, Rate, Window};
-use refusals::{Answer, Refusal};
+use printing::{Bytes, Outcome, Refused};
+use refusals::Refusal;
 use std::io;
-
-// The end of a line with a number for the answer.
-fn answer(rt: &impl Print, n: u64) -> io::Result<()> {
-    say(rt, b":")?;
-    printing::answer(rt, n)?;
-    Ok(())
-}
-
-fn refused(rt: &impl Print, why: Refusal) -> io::Result<()> {
-    say(rt, b":")?;
-    printing::refused(rt, why)?;
-    Ok(())
-}
+use wire_rules::{Request, Response, Transport};
 
 fn rate(rt: &impl Print, code: u32) -> io::Result<()> {
-    say(rt, b"rate")?;
-    number(rt, code as u64)?;
-    match rates::rate_of(code) {
-        Rate::BitsPerSecond(bits) => answer(rt, bits),
-        Rate::Refused(why) => refused(rt, why),
-    }
+    println!(rt; "rate {code}: {}", Outcome(rates::rate_of(code)))
 }
 
 fn down(rt: &impl Print, bits: u64) -> io::Result<()> {
-    say(rt, b"down")?;
-    number(rt, bits)?;
-    answer(rt, rates::round_down(bits) as u64)?;
-    Ok(())
+    println!(rt; "down {bits}: {}", rates::round_down(bits))
 }
 
 fn up(rt: &impl Print, wish: u64) -> io::Result<()> {
-    say(rt, b"up")?;
-    number(rt, wish)?;
-    match rates::round_up(wish) {
-        Code::Is(code) => answer(rt, code as u64),
-        Code::Refused(why) => refused(rt, why),
-    }
+    println!(rt; "up {wish}: {}", Outcome(rates::round_up(wish)))
 }
 
 // Both roundings at a rate and at one bit a second to each side of it.
 fn around(rt: &impl Print, bits: u64) -> io::Result<()> {
-    if bits == 0 {
-        return Ok(());
+    let sides = [bits.saturating_sub(1), bits, bits.saturating_add(1)];
+    for bits in sides {
+        down(rt, bits)?;
     }
-    if bits == u64::MAX {
-        return Ok(());
+    for wish in sides {
+        up(rt, wish)?;
     }
-    down(rt, bits - 1)?;
-    down(rt, bits)?;
-    down(rt, bits + 1)?;
-    up(rt, bits - 1)?;
-    up(rt, bits)?;
-    up(rt, bits + 1)?;
     Ok(())
-}
-
-fn boundary(rt: &impl Print, code: u32) -> io::Result<()> {
-    match rates::rate_of(code) {
-        Rate::BitsPerSecond(bits) => around(rt, bits),
-        Rate::Refused(why) => refused(rt, why),
-    }
 }
 
 // The window in segments and in bytes.
 fn window(rt: &impl Print, code: u32, rtt: u64, mss: u64, headers: u64) -> io::Result<()> {
-    say(rt, b"window")?;
-    number(rt, code as u64)?;
-    number(rt, rtt)?;
-    number(rt, mss)?;
-    number(rt, headers)?;
-    match rates::window_segments(code, rtt, mss, headers) {
-        Window::Of(segments) => {
-            say(rt, b":")?;
-            number(rt, segments)?;
-            match rates::window_bytes(code, rtt, mss, headers) {
-                Window::Of(bytes) => {
-                    number(rt, bytes)?;
-                    say(rt, b"\n")?;
-                    Ok(())
-                }
-                Window::Refused(why) => refused(rt, why),
-            }
-        }
-        Window::Refused(why) => refused(rt, why),
+    print!(rt; "window {code} {rtt} {mss} {headers}: ")?;
+    let transport = Transport { rtt, mss, headers };
+    if let Ok(segments) = rates::window_segments(code, transport) {
+        print!(rt; "{segments} ")?;
     }
+    println!(rt; "{}", Outcome(rates::window_bytes(code, transport)))
 }
 
 // What a write answered, and the buffer after it.
-fn written(rt: &impl Print, w: Answer, option: &[u8]) -> io::Result<()> {
-    match w {
-        Answer::Done => {
-            say(rt, b":")?;
-            bytes(rt, option)?;
-            say(rt, b"\n")?;
-            Ok(())
-        }
-        Answer::Refused(why) => {
-            refused(rt, why)?;
-            say(rt, b"left:")?;
-            bytes(rt, option)?;
-            say(rt, b"\n")?;
-            Ok(())
-        }
+fn written(rt: &impl Print, answer: Result<(), Refusal>, option: &[u8]) -> io::Result<()> {
+    match answer {
+        Ok(()) => println!(rt; ":{}", Bytes(option)),
+        Err(why) => println!(rt; ": {}\nleft:{}", Refused(why), Bytes(option)),
     }
 }
 
@@ -121,13 +57,13 @@ fn write_request(
     qs_ttl: u8,
     nonce: u32,
 ) -> io::Result<()> {
-    say(rt, b"write request")?;
-    number(rt, rate as u64)?;
-    number(rt, qs_ttl as u64)?;
-    number(rt, nonce as u64)?;
-    let w = request::write(option, rate, qs_ttl, nonce);
-    written(rt, w, option)?;
-    Ok(())
+    print!(rt; "write request {rate} {qs_ttl} {nonce}")?;
+    let fields = Request {
+        rate,
+        qs_ttl,
+        nonce,
+    };
+    written(rt, request::write(option, fields), option)
 }
 
 fn rewrite_request(
@@ -137,15 +73,16 @@ fn rewrite_request(
     qs_ttl: u8,
     nonce: u32,
 ) -> io::Result<()> {
-    say(rt, b"rewrite request")?;
-    bytes(rt, option)?;
-    say(rt, b" as")?;
-    number(rt, rate as u64)?;
-    number(rt, qs_ttl as u64)?;
-    number(rt, nonce as u64)?;
-    let w = request::rewrite(option, rate, qs_ttl, nonce);
-    written(rt, w, option)?;
-    Ok(())
+    print!(rt;
+        "rewrite request{} as {rate} {qs_ttl} {nonce}",
+        Bytes(option)
+    )?;
+    let fields = Request {
+        rate,
+        qs_ttl,
+        nonce,
+    };
+    written(rt, request::rewrite(option, fields), option)
 }
 
 fn write_response(
@@ -155,114 +92,76 @@ fn write_response(
     ttl_diff: u8,
     nonce: u32,
 ) -> io::Result<()> {
-    say(rt, b"write response")?;
-    number(rt, rate as u64)?;
-    number(rt, ttl_diff as u64)?;
-    number(rt, nonce as u64)?;
-    let w = response::write(option, rate, ttl_diff, nonce);
-    written(rt, w, option)?;
-    Ok(())
-}
-
-// The three fields of a request or a response.
-fn fields(rt: &impl Print, rate: u32, ttl: u8, nonce: u32) -> io::Result<()> {
-    say(rt, b":")?;
-    number(rt, rate as u64)?;
-    number(rt, ttl as u64)?;
-    number(rt, nonce as u64)?;
-    say(rt, b"\n")?;
-    Ok(())
+    print!(rt; "write response {rate} {ttl_diff} {nonce}")?;
+    let fields = Response {
+        rate,
+        ttl_diff,
+        nonce,
+    };
+    written(rt, response::write(option, fields), option)
 }
 
 fn read_request(rt: &impl Print, option: &[u8]) -> io::Result<()> {
-    say(rt, b"read request")?;
-    bytes(rt, option)?;
+    print!(rt; "read request{}: ", Bytes(option))?;
     match request::read(option) {
-        request::Reading::Request(r) => fields(rt, r.rate, r.qs_ttl, r.nonce),
-        request::Reading::Refused(why) => refused(rt, why),
+        Ok(read) => println!(rt; "{} {} {}", read.rate, read.qs_ttl, read.nonce),
+        Err(why) => println!(rt; "{}", Refused(why)),
     }
 }
 
 fn read_response(rt: &impl Print, option: &[u8]) -> io::Result<()> {
-    say(rt, b"read response")?;
-    bytes(rt, option)?;
+    print!(rt; "read response{}: ", Bytes(option))?;
     match response::read(option) {
-        response::Reading::Response(r) => fields(rt, r.rate, r.ttl_diff, r.nonce),
-        response::Reading::Refused(why) => refused(rt, why),
-    }
-}
-
-fn lower(rt: &impl Print, old: u32, new: u32, nonce: u32, fresh: u32) -> io::Result<()> {
-    say(rt, b"nonce after")?;
-    number(rt, old as u64)?;
-    number(rt, new as u64)?;
-    number(rt, nonce as u64)?;
-    number(rt, fresh as u64)?;
-    match nonce::after_lowering(old, new, nonce, fresh) {
-        Nonce::Is(n) => answer(rt, n as u64),
-        Nonce::Refused(why) => refused(rt, why),
-    }
-}
-
-fn compare(rt: &impl Print, code: u32, a: u32, b: u32) -> io::Result<()> {
-    say(rt, b"agree")?;
-    number(rt, code as u64)?;
-    number(rt, a as u64)?;
-    number(rt, b as u64)?;
-    match nonce::agree(code, a, b) {
-        Agreement::Same => say(rt, b": same\n"),
-        Agreement::Different => say(rt, b": different\n"),
-        Agreement::Refused(why) => refused(rt, why),
+        Ok(read) => println!(rt; "{} {} {}", read.rate, read.ttl_diff, read.nonce),
+        Err(why) => println!(rt; "{}", Refused(why)),
     }
 }
 
 fn every_rate(rt: &impl Print) -> io::Result<()> {
-    let mut code = 0;
-    while code <= 16 {
+    for code in 0..=16 {
         rate(rt, code)?;
-        code += 1;
     }
-    rate(rt, u32::MAX)?;
-    Ok(())
+    rate(rt, u32::MAX)
 }
 
 fn every_boundary(rt: &impl Print) -> io::Result<()> {
-    let mut code = 1;
-    while code <= 15 {
-        boundary(rt, code)?;
-        code += 1;
+    for code in 1..=15 {
+        if let Ok(bits) = rates::rate_of(code) {
+            around(rt, bits)?;
+        }
     }
     Ok(())
 }
 
 fn extremes(rt: &impl Print) -> io::Result<()> {
-    down(rt, 0)?;
-    down(rt, 39_999)?;
-    down(rt, 40_000)?;
-    down(rt, 2_000_000_000)?;
-    down(rt, u64::MAX)?;
-    up(rt, 0)?;
-    up(rt, 1)?;
-    up(rt, 2_000_000_000)?;
-    up(rt, u64::MAX)?;
+    for bits in [0, 39_999, 40_000, 2_000_000_000, u64::MAX] {
+        down(rt, bits)?;
+    }
+    for wish in [0, 1, 2_000_000_000, u64::MAX] {
+        up(rt, wish)?;
+    }
     Ok(())
 }
 
 fn windows(rt: &impl Print) -> io::Result<()> {
-    window(rt, 8, 600_000, 1_460, 40)?;
-    window(rt, 8, 599_999, 1_460, 40)?;
-    window(rt, 1, 1, 65_535, 120)?;
-    window(rt, 15, 60_000_000, 1, 20)?;
-    window(rt, 15, 60_000_000, 65_535, 120)?;
-    window(rt, 0, 600_000, 1_460, 40)?;
-    window(rt, 16, 600_000, 1_460, 40)?;
-    window(rt, 8, 0, 1_460, 40)?;
-    window(rt, 8, 60_000_001, 1_460, 40)?;
-    window(rt, 8, 600_000, 0, 40)?;
-    window(rt, 8, 600_000, 65_536, 40)?;
-    window(rt, 8, 600_000, 1_460, 19)?;
-    window(rt, 8, 600_000, 1_460, 121)?;
-    window(rt, 8, u64::MAX, u64::MAX, u64::MAX)?;
+    for (code, rtt, mss, headers) in [
+        (8, 600_000, 1_460, 40),
+        (8, 599_999, 1_460, 40),
+        (1, 1, 65_535, 120),
+        (15, 60_000_000, 1, 20),
+        (15, 60_000_000, 65_535, 120),
+        (0, 600_000, 1_460, 40),
+        (16, 600_000, 1_460, 40),
+        (8, 0, 1_460, 40),
+        (8, 60_000_001, 1_460, 40),
+        (8, 600_000, 0, 40),
+        (8, 600_000, 65_536, 40),
+        (8, 600_000, 1_460, 19),
+        (8, 600_000, 1_460, 121),
+        (8, u64::MAX, u64::MAX, u64::MAX),
+    ] {
+        window(rt, code, rtt, mss, headers)?;
+    }
     Ok(())
 }
 
@@ -279,15 +178,13 @@ fn requests(rt: &impl Print) -> io::Result<()> {
     write_request(rt, &mut option, 15, 255, 1_073_741_823)?;
     rewrite_request(rt, &mut option, 16, 0, 0)?;
     rewrite_request(rt, &mut option, 0, 0, 1_073_741_824)?;
-    rewrite_request(rt, &mut option, 0, 0, 0)?;
-    Ok(())
+    rewrite_request(rt, &mut option, 0, 0, 0)
 }
 
 fn reserved_bits(rt: &impl Print) -> io::Result<()> {
     let mut option = [25, 8, 5, 128, 0, 0, 0, 3];
     read_request(rt, &option)?;
-    rewrite_request(rt, &mut option, 3, 127, 960)?;
-    Ok(())
+    rewrite_request(rt, &mut option, 3, 127, 960)
 }
 
 fn no_requests(rt: &impl Print) -> io::Result<()> {
@@ -300,8 +197,7 @@ fn no_requests(rt: &impl Print) -> io::Result<()> {
     read_request(rt, &[25, 8, 5, 128, 0, 0, 0, 0, 0])?;
     let mut long = [1u8; 9];
     write_request(rt, &mut long, 5, 128, 0)?;
-    rewrite_request(rt, &mut long, 5, 128, 0)?;
-    Ok(())
+    rewrite_request(rt, &mut long, 5, 128, 0)
 }
 
 fn responses(rt: &impl Print) -> io::Result<()> {
@@ -315,29 +211,45 @@ fn responses(rt: &impl Print) -> io::Result<()> {
     read_response(rt, &[27, 9, 3, 192, 0, 0, 15, 0])?;
     read_response(rt, &[27, 8, 3, 192, 0, 0, 15])?;
     let mut short = [1u8; 7];
-    write_response(rt, &mut short, 3, 192, 960)?;
+    write_response(rt, &mut short, 3, 192, 960)
+}
+
+fn lowerings(rt: &impl Print) -> io::Result<()> {
+    for (old, new, nonce, fresh) in [
+        (5, 3, 0, 1_073_741_823),
+        (3, 5, 0, 1_073_741_823),
+        (15, 0, 0, 1_073_741_823),
+        (15, 14, 0, 1_073_741_823),
+        (1, 0, 0, 1_073_741_823),
+        (5, 3, 1_073_741_823, 0),
+        (16, 3, 0, 0),
+        (5, 16, 0, 0),
+        (5, 3, 1_073_741_824, 0),
+        (5, 3, 0, 1_073_741_824),
+    ] {
+        let after = nonce::after_lowering(old, new, nonce, fresh);
+        println!(rt;
+            "nonce after {old} {new} {nonce} {fresh}: {}",
+            Outcome(after)
+        )?;
+    }
     Ok(())
 }
 
-fn nonces(rt: &impl Print) -> io::Result<()> {
-    lower(rt, 5, 3, 0, 1_073_741_823)?;
-    lower(rt, 3, 5, 0, 1_073_741_823)?;
-    lower(rt, 15, 0, 0, 1_073_741_823)?;
-    lower(rt, 15, 14, 0, 1_073_741_823)?;
-    lower(rt, 1, 0, 0, 1_073_741_823)?;
-    lower(rt, 5, 3, 1_073_741_823, 0)?;
-    lower(rt, 16, 3, 0, 0)?;
-    lower(rt, 5, 16, 0, 0)?;
-    lower(rt, 5, 3, 1_073_741_824, 0)?;
-    lower(rt, 5, 3, 0, 1_073_741_824)?;
-    compare(rt, 3, 960, 0)?;
-    compare(rt, 5, 960, 0)?;
-    compare(rt, 4, 960, 0)?;
-    compare(rt, 0, 960, 7)?;
-    compare(rt, 15, 1_073_741_823, 1_073_741_823)?;
-    compare(rt, 16, 0, 0)?;
-    compare(rt, 3, 1_073_741_824, 0)?;
-    compare(rt, 3, 0, 1_073_741_824)?;
+fn comparisons(rt: &impl Print) -> io::Result<()> {
+    for (code, a, b) in [
+        (3, 960, 0),
+        (5, 960, 0),
+        (4, 960, 0),
+        (0, 960, 7),
+        (15, 1_073_741_823, 1_073_741_823),
+        (16, 0, 0),
+        (3, 1_073_741_824, 0),
+        (3, 0, 1_073_741_824),
+    ] {
+        let words = nonce::agree(code, a, b).map(|same| if same { "same" } else { "different" });
+        println!(rt; "agree {code} {a} {b}: {}", Outcome(words))?;
+    }
     Ok(())
 }
 
@@ -350,6 +262,6 @@ fn main(rt: HostRuntime) -> io::Result<()> {
     reserved_bits(&rt)?;
     no_requests(&rt)?;
     responses(&rt)?;
-    nonces(&rt)?;
-    Ok(())
+    lowerings(&rt)?;
+    comparisons(&rt)
 }

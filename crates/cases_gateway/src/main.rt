@@ -6,13 +6,9 @@
 // last eight bytes are the option.
 #![tactic(auto)]
 
-ghost use Rattle.std.specs.Prelude.{◌<◌};
-
-use gateway_rules::Ledger;
-use printing::{bytes, number, numbers, say, start};
-use receiver::Received;
+use gateway_rules::{Ledger, Reaction};
+use printing::{Bytes, Numbers, Outcome};
 use refusals::Refusal;
-use router::Routed;
 use std::io;
 
 // The packet that document 01 works out.
@@ -44,47 +40,34 @@ const ONES: u32 = 1_073_741_823;
 // A nonce of the fields 2, 1, 0, five times.
 const FIELDS: u32 = 613_566_756;
 
-// The greatest allowance, 2^40.
-const MOST: u64 = 1_099_511_627_776;
+// The greatest allowance.
+const MOST: u64 = 1 << 40;
 
 // The allowance of the smaller links: the rate of code 7.
 const ALLOWANCE: u64 = 5_120_000;
 
 // A half of 2^64.
-const HALF: u64 = 9_223_372_036_854_775_808;
-
-// The 16-bit word of two bytes.
-fn word(high: u8, low: u8) -> u32
-    ensures { result < 65536 }
-{
-    high as u32 * 256 + low as u32
-}
+const HALF: u64 = 1 << 63;
 
 // The sum of the header's words, with each carry added at once.
-fn sum(p: [u8; 28]) -> u32
-    ensures { result < 65536 }
-{
-    let mut total = 0;
-    let mut i = 0;
-    while i < 14 {
-        let next = total + word(p[2 * i], p[2 * i + 1]);
-        total = next % 65_536 + next / 65_536;
-        i += 1;
+fn sum(p: [u8; 28]) -> u16 {
+    let mut total = 0u16;
+    for i in 0..14 {
+        let word = u16::from_be_bytes([p[2 * i], p[2 * i + 1]]);
+        let (next, carried) = total.overflowing_add(word);
+        total = next.wrapping_add(carried as u16);
     }
     total
 }
 
 // The packet with another byte at a place, and the checksum of that header.
-fn with(packet: [u8; 28], at: usize, byte: u8) -> [u8; 28] {
-    let mut p = packet;
-    let i = at % 28;
-    p[i] = byte;
-    p[10] = 0;
-    p[11] = 0;
-    let checksum = 65_535 - sum(p);
-    p[10] = (checksum / 256) as u8;
-    p[11] = (checksum % 256) as u8;
-    p
+fn with(mut packet: [u8; 28], at: usize, byte: u8) -> [u8; 28] {
+    packet[at % 28] = byte;
+    packet[10] = 0;
+    packet[11] = 0;
+    let checksum = !sum(packet);
+    packet[10..12].copy_from_slice(&checksum.to_be_bytes());
+    packet
 }
 
 // Document 01's packet with another byte at a place.
@@ -97,184 +80,131 @@ fn mixed(at: usize, byte: u8) -> [u8; 28] {
     with(MIXED, at, byte)
 }
 
-// The end of a line with a part's bytes.
-fn line(rt: &impl Print, part: &[u8]) -> io::Result<()> {
-    bytes(rt, part)?;
-    say(rt, b"\n")?;
-    Ok(())
+fn show(rt: &impl Print, name: &str, packet: &[u8]) -> io::Result<()> {
+    println!(rt; "{name}: packet{}", Bytes(packet))
 }
 
-fn show(rt: &impl Print, name: &[u8], packet: &[u8]) -> io::Result<()> {
-    start(rt, name, b"packet")?;
-    line(rt, packet)?;
-    Ok(())
+fn done(answer: Result<(), Refusal>) -> Outcome<&'static str> {
+    Outcome(answer.map(|()| "done"))
 }
 
-fn refused(rt: &impl Print, why: Refusal) -> io::Result<()> {
-    say(rt, b": refused")?;
-    number(rt, why.number() as u64)?;
-    say(rt, b",")?;
-    Ok(())
-}
-
-fn routed(rt: &impl Print, answer: Routed) -> io::Result<()> {
-    match answer {
-        Routed::Done => say(rt, b": done,"),
-        Routed::Refused(why) => refused(rt, why),
-    }
-}
-
-fn router(
+// A router on a packet, which is handed back as the call left it.
+fn route<const N: usize>(
     rt: &impl Print,
-    name: &[u8],
-    packet: &mut [u8],
+    name: &str,
+    mut packet: [u8; N],
     ceiling: u32,
     fresh: u32,
-) -> io::Result<()> {
-    start(rt, name, b"router")?;
-    number(rt, ceiling as u64)?;
-    number(rt, fresh as u64)?;
-    routed(rt, router::router(packet, ceiling, fresh))?;
-    line(rt, packet)?;
-    Ok(())
+) -> io::Result<[u8; N]> {
+    let answer = done(router::router(&mut packet, ceiling, fresh));
+    println!(rt;
+        "{name}: router {ceiling} {fresh}: {answer},{}",
+        Bytes(&packet)
+    )?;
+    Ok(packet)
 }
 
-fn silent_router(rt: &impl Print, name: &[u8], packet: &mut [u8]) -> io::Result<()> {
-    start(rt, name, b"silent router")?;
-    routed(rt, router::silent_router(packet))?;
-    line(rt, packet)?;
-    Ok(())
+// A silent router, likewise.
+fn pass<const N: usize>(rt: &impl Print, name: &str, mut packet: [u8; N]) -> io::Result<[u8; N]> {
+    let answer = done(router::silent_router(&mut packet));
+    println!(rt; "{name}: silent router: {answer},{}", Bytes(&packet))?;
+    Ok(packet)
 }
 
-// A ledger's record and its slots.
-fn link(rt: &impl Print, row: &[u64], ledger: Ledger) -> io::Result<()> {
-    say(rt, b" tick")?;
-    number(rt, ledger.tick)?;
-    say(rt, b" allowance")?;
-    number(rt, ledger.allowance)?;
-    say(rt, b" slots")?;
-    numbers(rt, row)?;
-    say(rt, b",")?;
-    Ok(())
-}
-
-// The line of a router with a ledger after its start. The record is handed back as the call left it.
-fn by_ledger(
+// A receiver of a packet, with a buffer for the response.
+fn receive_into<const N: usize>(
     rt: &impl Print,
-    packet: &mut [u8],
-    ceiling: u32,
-    fresh: u32,
-    row: &mut [u64],
-    ledger: Ledger,
-    tick: u64,
-) -> io::Result<Ledger> {
-    number(rt, ceiling as u64)?;
-    number(rt, fresh as u64)?;
-    say(rt, b" at")?;
-    number(rt, tick)?;
-    let reply = router::router_with_ledger(packet, ceiling, fresh, row, ledger, tick);
-    let left = reply.ledger;
-    let answer = reply.answer;
-    routed(rt, answer)?;
-    link(rt, row, left)?;
-    line(rt, packet)?;
-    Ok(left)
-}
-
-// A router with a ceiling of 15 and a ledger.
-fn ledger_router(
-    rt: &impl Print,
-    name: &[u8],
-    packet: [u8; 28],
-    row: &mut [u64],
-    ledger: Ledger,
-    tick: u64,
-) -> io::Result<()> {
-    let mut p = packet;
-    start(rt, name, b"ledger router")?;
-    by_ledger(rt, &mut p, 15, ONES, row, ledger, tick)?;
-    Ok(())
-}
-
-fn receiver_into(
-    rt: &impl Print,
-    name: &[u8],
+    name: &str,
     packet: &[u8],
     ceiling: u32,
-    response: &mut [u8],
+    mut response: [u8; N],
 ) -> io::Result<()> {
-    start(rt, name, b"receiver")?;
-    number(rt, ceiling as u64)?;
-    match receiver::receiver(packet, ceiling, response) {
-        Received::Answered => say(rt, b": answered,")?,
-        Received::Unanswered => say(rt, b": unanswered,")?,
-        Received::Refused(why) => refused(rt, why)?,
-    }
-    line(rt, response)?;
-    Ok(())
+    let answer = receiver::receiver(packet, ceiling, &mut response).map(
+        |reaction| match reaction {
+            Reaction::Answered => "answered",
+            Reaction::Unanswered => "unanswered",
+        },
+    );
+    println!(rt;
+        "{name}: receiver {ceiling}: {},{}",
+        Outcome(answer),
+        Bytes(&response)
+    )
 }
 
 // A receiver with a buffer of eight bytes, which hold something before.
-fn receiver(rt: &impl Print, name: &[u8], packet: &[u8], ceiling: u32) -> io::Result<()> {
-    let mut response = [0xeeu8; 8];
-    receiver_into(rt, name, packet, ceiling, &mut response)?;
-    Ok(())
+fn receive(rt: &impl Print, name: &str, packet: &[u8], ceiling: u32) -> io::Result<()> {
+    receive_into(rt, name, packet, ceiling, [0xee; 8])
 }
 
-// A router on a packet by value, which is handed back as the call left it.
-fn route(
+// A link: its row of slots, and its record.
+#[derive(Clone, Copy)]
+struct Link<const N: usize> {
+    row: [u64; N],
+    ledger: Ledger,
+}
+
+impl<const N: usize> Link<N> {
+    // A row at tick 8.
+    fn new(row: [u64; N], allowance: u64) -> Self {
+        let ledger = Ledger { tick: 8, allowance };
+        Link { row, ledger }
+    }
+
+    // A router with the link's ledger, on a packet as it came. The line has its start already.
+    fn route(
+        &mut self,
+        rt: &impl Print,
+        mut packet: [u8; 28],
+        ceiling: u32,
+        fresh: u32,
+        tick: u64,
+    ) -> io::Result<()> {
+        let Link { row, ledger } = self;
+        let answer = router::router_with_ledger(&mut packet, ceiling, fresh, row, ledger, tick);
+        print!(rt;
+            ": ledger router {ceiling} {fresh} at {tick}: {}",
+            done(answer)
+        )?;
+        print!(rt;
+            ", tick {} allowance {}",
+            self.ledger.tick, self.ledger.allowance
+        )?;
+        println!(rt; " slots{},{}", Numbers(&self.row), Bytes(&packet))
+    }
+}
+
+// A router with a ceiling of 15 and a ledger.
+fn ledger_router<const N: usize>(
     rt: &impl Print,
-    name: &[u8],
+    name: &str,
     packet: [u8; 28],
-    ceiling: u32,
-    fresh: u32,
-) -> io::Result<[u8; 28]> {
-    let mut p = packet;
-    router(rt, name, &mut p, ceiling, fresh)?;
-    Ok(p)
-}
-
-// A silent router on a packet by value, likewise.
-fn pass(rt: &impl Print, name: &[u8], packet: [u8; 28]) -> io::Result<[u8; 28]> {
-    let mut p = packet;
-    silent_router(rt, name, &mut p)?;
-    Ok(p)
-}
-
-// A receiver of a packet by value.
-fn receive(rt: &impl Print, name: &[u8], packet: [u8; 28], ceiling: u32) -> io::Result<()> {
-    receiver(rt, name, &packet, ceiling)?;
-    Ok(())
+    mut link: Link<N>,
+) -> io::Result<()> {
+    print!(rt; "{name}")?;
+    link.route(rt, packet, 15, ONES, 9)
 }
 
 // The three routers and the receiver, each on the packet as it came.
-fn all(rt: &impl Print, name: &[u8], packet: [u8; 28]) -> io::Result<()> {
+fn all(rt: &impl Print, name: &str, packet: [u8; 28]) -> io::Result<()> {
     route(rt, name, packet, 3, ONES)?;
-    let mut row = [0u64; 2];
-    let ledger = Ledger {
-        tick: 8,
-        allowance: 1_000_000,
-    };
-    ledger_router(rt, name, packet, &mut row, ledger, 9)?;
+    ledger_router(rt, name, packet, Link::new([0; 2], 1_000_000))?;
     pass(rt, name, packet)?;
-    receive(rt, name, packet, 15)?;
-    Ok(())
+    receive(rt, name, &packet, 15)
 }
 
 fn document_01(rt: &impl Print) -> io::Result<()> {
-    let name: &[u8] = b"document 01";
-    let came = DOCUMENT_01;
-    show(rt, name, &came)?;
-    let lowered = route(rt, name, came, 3, ONES)?;
-    receive(rt, name, lowered, 15)?;
-    let passed = pass(rt, name, came)?;
-    receive(rt, name, passed, 15)?;
-    Ok(())
+    let name = "document 01";
+    show(rt, name, &DOCUMENT_01)?;
+    let lowered = route(rt, name, DOCUMENT_01, 3, ONES)?;
+    receive(rt, name, &lowered, 15)?;
+    let passed = pass(rt, name, DOCUMENT_01)?;
+    receive(rt, name, &passed, 15)
 }
 
 // One packet on a way of several routers: lowered by none, by steps, passed by a silent one, and denied in the end.
 fn in_turn(rt: &impl Print) -> io::Result<()> {
-    let name: &[u8] = b"in turn";
+    let name = "in turn";
     let mut p = mixed(RATE, 15);
     show(rt, name, &p)?;
     p = route(rt, name, p, 15, ONES)?;
@@ -283,329 +213,292 @@ fn in_turn(rt: &impl Print) -> io::Result<()> {
     p = route(rt, name, p, 8, ONES)?;
     p = route(rt, name, p, 4, FIELDS)?;
     p = route(rt, name, p, 6, ONES)?;
-    receive(rt, name, p, 3)?;
+    receive(rt, name, &p, 3)?;
     p = route(rt, name, p, 0, ONES)?;
-    receive(rt, name, p, 15)?;
+    receive(rt, name, &p, 15)?;
     route(rt, name, p, 7, ONES)?;
     Ok(())
 }
 
 fn ttls(rt: &impl Print) -> io::Result<()> {
-    let name: &[u8] = b"ttl 2";
+    let name = "ttl 2";
     let came = plain(TTL, 2);
     let routed = route(rt, name, came, 15, 0)?;
     route(rt, name, routed, 15, 0)?;
-    receive(rt, name, routed, 15)?;
+    receive(rt, name, &routed, 15)?;
     let passed = pass(rt, name, came)?;
     pass(rt, name, passed)?;
-    all(rt, b"ttl 1", plain(TTL, 1))?;
-    all(rt, b"ttl 0", plain(TTL, 0))?;
-    Ok(())
+    all(rt, "ttl 1", plain(TTL, 1))?;
+    all(rt, "ttl 0", plain(TTL, 0))
 }
 
 fn ceilings(rt: &impl Print) -> io::Result<()> {
-    let name: &[u8] = b"mixed, rate 5";
-    let p = MIXED;
-    show(rt, name, &p)?;
-    route(rt, name, p, 5, ONES)?;
-    route(rt, name, p, 15, ONES)?;
-    route(rt, name, p, 4, ONES)?;
-    route(rt, name, p, 1, FIELDS)?;
-    route(rt, name, p, 0, ONES)?;
-    receive(rt, name, p, 5)?;
-    receive(rt, name, p, 15)?;
-    receive(rt, name, p, 4)?;
-    receive(rt, name, p, 0)?;
+    let name = "mixed, rate 5";
+    show(rt, name, &MIXED)?;
+    for (ceiling, fresh) in [(5, ONES), (15, ONES), (4, ONES), (1, FIELDS), (0, ONES)] {
+        route(rt, name, MIXED, ceiling, fresh)?;
+    }
+    for ceiling in [5, 15, 4, 0] {
+        receive(rt, name, &MIXED, ceiling)?;
+    }
     Ok(())
 }
 
 fn end_rates(rt: &impl Print) -> io::Result<()> {
-    let top: &[u8] = b"mixed, rate 15";
-    let p = mixed(RATE, 15);
-    route(rt, top, p, 14, ONES)?;
-    route(rt, top, p, 1, ONES)?;
-    let low: &[u8] = b"mixed, rate 1";
-    let q = mixed(RATE, 1);
-    route(rt, low, q, 1, ONES)?;
-    route(rt, low, q, 0, ONES)?;
-    let none: &[u8] = b"mixed, rate 0";
-    let r = mixed(RATE, 0);
-    all(rt, none, r)?;
-    route(rt, none, r, 0, ONES)?;
+    let top = mixed(RATE, 15);
+    route(rt, "mixed, rate 15", top, 14, ONES)?;
+    route(rt, "mixed, rate 15", top, 1, ONES)?;
+    let low = mixed(RATE, 1);
+    route(rt, "mixed, rate 1", low, 1, ONES)?;
+    route(rt, "mixed, rate 1", low, 0, ONES)?;
+    let none = mixed(RATE, 0);
+    all(rt, "mixed, rate 0", none)?;
+    route(rt, "mixed, rate 0", none, 0, ONES)?;
     Ok(())
 }
 
 fn no_requests(rt: &impl Print) -> io::Result<()> {
-    let report: &[u8] = b"report";
-    let p = mixed(RATE, 0x85);
-    all(rt, report, p)?;
-    route(rt, report, p, 0, ONES)?;
-    let other: &[u8] = b"function 3";
-    let q = mixed(RATE, 0x35);
-    route(rt, other, q, 3, ONES)?;
-    receive(rt, other, q, 15)?;
-    all(rt, b"no option", mixed(OPTION_TYPE, 0))?;
-    Ok(())
+    let report = mixed(RATE, 0x85);
+    all(rt, "report", report)?;
+    route(rt, "report", report, 0, ONES)?;
+    let other = mixed(RATE, 0x35);
+    route(rt, "function 3", other, 3, ONES)?;
+    receive(rt, "function 3", &other, 15)?;
+    all(rt, "no option", mixed(OPTION_TYPE, 0))
 }
 
 // A QS TTL of 0 is no denial: a random start reaches it.
 fn qs_ttls(rt: &impl Print) -> io::Result<()> {
-    let name: &[u8] = b"qs ttl 0";
-    let p = plain(QS_TTL, 0);
-    receive(rt, name, p, 15)?;
-    let q = route(rt, name, p, 3, ONES)?;
-    receive(rt, name, q, 15)?;
-    let one: &[u8] = b"qs ttl 1";
-    let r = route(rt, one, plain(QS_TTL, 1), 3, ONES)?;
-    route(rt, one, r, 3, ONES)?;
+    let zero = plain(QS_TTL, 0);
+    receive(rt, "qs ttl 0", &zero, 15)?;
+    let lowered = route(rt, "qs ttl 0", zero, 3, ONES)?;
+    receive(rt, "qs ttl 0", &lowered, 15)?;
+    let one = route(rt, "qs ttl 1", plain(QS_TTL, 1), 3, ONES)?;
+    route(rt, "qs ttl 1", one, 3, ONES)?;
     Ok(())
 }
 
 fn long_header(rt: &impl Print) -> io::Result<()> {
-    let name: &[u8] = b"long header";
-    let mut p = LONG;
-    show(rt, name, &p)?;
-    receiver(rt, name, &p, 15)?;
-    router(rt, name, &mut p, 4, FIELDS)?;
-    silent_router(rt, name, &mut p)?;
-    router(rt, name, &mut p, 0, FIELDS)?;
+    let name = "long header";
+    show(rt, name, &LONG)?;
+    receive(rt, name, &LONG, 15)?;
+    let lowered = route(rt, name, LONG, 4, FIELDS)?;
+    let passed = pass(rt, name, lowered)?;
+    route(rt, name, passed, 0, FIELDS)?;
     Ok(())
 }
 
 fn two_requests(rt: &impl Print) -> io::Result<()> {
-    let name: &[u8] = b"two requests";
+    let name = "two requests";
     let mut p = LONG;
     p[10] = 0x32;
     p[OPTION_TYPE] = 0x19;
-    router(rt, name, &mut p, 4, FIELDS)?;
-    receiver(rt, name, &p, 15)?;
-    silent_router(rt, name, &mut p)?;
+    p = route(rt, name, p, 4, FIELDS)?;
+    receive(rt, name, &p, 15)?;
+    pass(rt, name, p)?;
     Ok(())
 }
 
 fn faults(rt: &impl Print) -> io::Result<()> {
-    all(rt, b"total length 29", plain(3, 29))?;
+    all(rt, "total length 29", plain(3, 29))?;
     let mut p = DOCUMENT_01;
     p[11] = 0x53;
-    all(rt, b"wrong checksum", p)?;
-    all(rt, b"option length 0", plain(OPTION_LENGTH, 0))?;
-    all(rt, b"option length 7", plain(OPTION_LENGTH, 7))?;
-    Ok(())
+    all(rt, "wrong checksum", p)?;
+    all(rt, "option length 0", plain(OPTION_LENGTH, 0))?;
+    all(rt, "option length 7", plain(OPTION_LENGTH, 7))
 }
 
 // Two faults in a call: the first in the order of the tests is named.
 fn two_faults(rt: &impl Print) -> io::Result<()> {
     let mut p = DOCUMENT_01;
     p[0] = 0x67;
-    route(rt, b"version 6, wrong checksum", p, 3, ONES)?;
-    let seven: &[u8] = b"version 6, ceiling 16";
-    route(rt, seven, p, 16, ONES)?;
-    receive(rt, seven, p, 16)?;
-    let two: &[u8] = b"wrong checksum, option length 0, ttl 1";
+    route(rt, "version 6, wrong checksum", p, 3, ONES)?;
+    route(rt, "version 6, ceiling 16", p, 16, ONES)?;
+    receive(rt, "version 6, ceiling 16", &p, 16)?;
+    let three = "wrong checksum, option length 0, ttl 1";
     p = plain(TTL, 1);
     p[OPTION_LENGTH] = 0;
-    route(rt, two, p, 3, ONES)?;
-    pass(rt, two, p)?;
+    route(rt, three, p, 3, ONES)?;
+    pass(rt, three, p)?;
     Ok(())
 }
 
 fn options_before_ttl(rt: &impl Print) -> io::Result<()> {
-    let three: &[u8] = b"option length 0, ttl 1";
-    let p = with(plain(TTL, 1), OPTION_LENGTH, 0);
-    route(rt, three, p, 3, ONES)?;
-    pass(rt, three, p)?;
-    receive(rt, three, p, 15)?;
-    let five: &[u8] = b"option length 7, ttl 1";
-    let q = with(p, OPTION_LENGTH, 7);
-    route(rt, five, q, 3, ONES)?;
-    pass(rt, five, q)?;
+    let three = with(plain(TTL, 1), OPTION_LENGTH, 0);
+    route(rt, "option length 0, ttl 1", three, 3, ONES)?;
+    pass(rt, "option length 0, ttl 1", three)?;
+    receive(rt, "option length 0, ttl 1", &three, 15)?;
+    let five = with(three, OPTION_LENGTH, 7);
+    route(rt, "option length 7, ttl 1", five, 3, ONES)?;
+    pass(rt, "option length 7, ttl 1", five)?;
     Ok(())
 }
 
 fn out_of_range(rt: &impl Print) -> io::Result<()> {
-    let name: &[u8] = b"out of range";
-    let p = DOCUMENT_01;
-    route(rt, name, p, 16, 0)?;
-    route(rt, name, p, 15, ONES + 1)?;
-    route(rt, name, p, u32::MAX, u32::MAX)?;
-    receive(rt, name, p, 16)?;
-    let mut seven = [0xeeu8; 7];
-    receiver_into(rt, name, &p, 15, &mut seven)?;
-    let mut nine = [0xeeu8; 9];
-    receiver_into(rt, name, &p, 15, &mut nine)?;
-    Ok(())
+    let name = "out of range";
+    for (ceiling, fresh) in [(16, 0), (15, ONES + 1), (u32::MAX, u32::MAX)] {
+        route(rt, name, DOCUMENT_01, ceiling, fresh)?;
+    }
+    receive(rt, name, &DOCUMENT_01, 16)?;
+    receive_into(rt, name, &DOCUMENT_01, 15, [0xee; 7])?;
+    receive_into(rt, name, &DOCUMENT_01, 15, [0xee; 9])
 }
 
 // A router with a ledger whose row has so many slots, at the ends of their range and beyond them.
 fn rows(rt: &impl Print) -> io::Result<()> {
-    let p = DOCUMENT_01;
-    let ledger = Ledger {
-        tick: 8,
-        allowance: MOST,
-    };
-    let mut most = [7u64; 64];
-    ledger_router(rt, b"64 slots", p, &mut most, ledger, 9)?;
-    let mut long = [7u64; 65];
-    ledger_router(rt, b"65 slots", p, &mut long, ledger, 9)?;
-    let mut one = [7u64; 1];
-    ledger_router(rt, b"one slot", p, &mut one, ledger, 9)?;
-    let mut none = [7u64; 0];
-    ledger_router(rt, b"no slot", p, &mut none, ledger, 9)?;
-    Ok(())
+    ledger_router(rt, "64 slots", DOCUMENT_01, Link::new([7; 64], MOST))?;
+    ledger_router(rt, "65 slots", DOCUMENT_01, Link::new([7; 65], MOST))?;
+    ledger_router(rt, "one slot", DOCUMENT_01, Link::new([7; 1], MOST))?;
+    ledger_router(rt, "no slot", DOCUMENT_01, Link::new([7; 0], MOST))
 }
 
-// A router with a ledger at tick 8, on the row as it came.
+// A router with a ledger, on the link as it came.
 fn lent(
     rt: &impl Print,
-    name: &[u8],
+    name: &str,
     packet: [u8; 28],
-    slots: [u64; 4],
-    allowance: u64,
+    mut link: Link<4>,
     ceiling: u32,
     fresh: u32,
     tick: u64,
 ) -> io::Result<()> {
-    let mut p = packet;
-    let mut row = slots;
-    start(rt, name, b"ledger router")?;
-    by_ledger(
-        rt,
-        &mut p,
-        ceiling,
-        fresh,
-        &mut row,
-        Ledger { tick: 8, allowance },
-        tick,
-    )?;
-    Ok(())
+    print!(rt; "{name}")?;
+    link.route(rt, packet, ceiling, fresh, tick)
 }
 
 // 7 comes before the packet's faults.
 fn links_out_of_range(rt: &impl Print) -> io::Result<()> {
-    let name: &[u8] = b"version 6, link out of range";
-    let row = [7u64; 4];
+    let link = Link::new([7; 4], MOST);
+    let over = Link::new([7; 4], MOST + 1);
+    lent(rt, "link out of range", DOCUMENT_01, over, 15, ONES, 9)?;
+    let name = "version 6, link out of range";
     let mut p = DOCUMENT_01;
-    let over: &[u8] = b"link out of range";
-    lent(rt, over, p, row, MOST + 1, 15, ONES, 9)?;
     p[0] = 0x67;
-    lent(rt, name, p, row, MOST + 1, 15, ONES, 9)?;
-    lent(rt, name, p, row, MOST, 16, ONES, 9)?;
-    lent(rt, name, p, row, MOST, 15, ONES + 1, 9)?;
-    Ok(())
+    lent(rt, name, p, over, 15, ONES, 9)?;
+    lent(rt, name, p, link, 16, ONES, 9)?;
+    lent(rt, name, p, link, 15, ONES + 1, 9)
 }
 
 // 8 comes after the packet's faults and before 9, and only where the ledger is asked.
 fn over_allowance(rt: &impl Print) -> io::Result<()> {
-    let name: &[u8] = b"over the allowance";
-    let p = DOCUMENT_01;
-    let row = [5_000_000, 120_001, 0, 0];
-    lent(rt, name, p, row, ALLOWANCE, 15, ONES, 8)?;
-    lent(rt, name, p, row, ALLOWANCE, 15, ONES, 12)?;
-    lent(rt, name, p, row, ALLOWANCE, 15, ONES, 7)?;
-    lent(rt, name, p, row, ALLOWANCE, 0, ONES, 7)?;
-    let none: &[u8] = b"rate 0, over the allowance";
-    lent(rt, none, plain(RATE, 0), row, ALLOWANCE, 15, ONES, 7)?;
-    let six: &[u8] = b"ttl 1, over the allowance";
-    lent(rt, six, plain(TTL, 1), row, ALLOWANCE, 15, ONES, 7)?;
-    let wraps: &[u8] = b"sum of 2^64";
-    lent(rt, wraps, p, [HALF, HALF, 0, 0], ALLOWANCE, 15, ONES, 8)?;
-    Ok(())
+    let link = Link::new([5_000_000, 120_001, 0, 0], ALLOWANCE);
+    for (ceiling, tick) in [(15, 8), (15, 12), (15, 7), (0, 7)] {
+        lent(
+            rt,
+            "over the allowance",
+            DOCUMENT_01,
+            link,
+            ceiling,
+            ONES,
+            tick,
+        )?;
+    }
+    lent(
+        rt,
+        "rate 0, over the allowance",
+        plain(RATE, 0),
+        link,
+        15,
+        ONES,
+        7,
+    )?;
+    lent(
+        rt,
+        "ttl 1, over the allowance",
+        plain(TTL, 1),
+        link,
+        15,
+        ONES,
+        7,
+    )?;
+    let wraps = Link::new([HALF, HALF, 0, 0], ALLOWANCE);
+    lent(rt, "sum of 2^64", DOCUMENT_01, wraps, 15, ONES, 8)
 }
 
 // 9 comes after the packet's faults too, and only where the ledger is asked. A row whose total is the allowance
 // is no fault: it has no room, and here none after a tick either.
 fn tick_before(rt: &impl Print) -> io::Result<()> {
-    let name: &[u8] = b"at the allowance";
-    let p = DOCUMENT_01;
-    let row = [5_060_000, 60_000, 0, 0];
-    lent(rt, name, p, row, ALLOWANCE, 15, ONES, 8)?;
-    lent(rt, name, p, row, ALLOWANCE, 15, ONES, 9)?;
-    lent(rt, name, p, row, ALLOWANCE, 15, ONES, 7)?;
-    lent(rt, name, p, row, ALLOWANCE, 0, ONES, 7)?;
-    let six: &[u8] = b"ttl 1, at the allowance";
-    lent(rt, six, plain(TTL, 1), row, ALLOWANCE, 15, ONES, 7)?;
-    Ok(())
+    let link = Link::new([5_060_000, 60_000, 0, 0], ALLOWANCE);
+    for (ceiling, tick) in [(15, 8), (15, 9), (15, 7), (0, 7)] {
+        lent(
+            rt,
+            "at the allowance",
+            DOCUMENT_01,
+            link,
+            ceiling,
+            ONES,
+            tick,
+        )?;
+    }
+    lent(
+        rt,
+        "ttl 1, at the allowance",
+        plain(TTL, 1),
+        link,
+        15,
+        ONES,
+        7,
+    )
 }
 
 // A packet with this rate to the shared ledger's router.
-fn asks(
-    rt: &impl Print,
-    row: &mut [u64; 4],
-    ledger: Ledger,
-    rate: u8,
-    ceiling: u32,
-    tick: u64,
-) -> io::Result<Ledger> {
-    let mut p = mixed(RATE, rate);
-    say(rt, b"shared ledger, rate")?;
-    number(rt, rate as u64)?;
-    say(rt, b": ledger router")?;
-    by_ledger(rt, &mut p, ceiling, FIELDS, row, ledger, tick)
+fn asks(rt: &impl Print, link: &mut Link<4>, rate: u8, ceiling: u32, tick: u64) -> io::Result<()> {
+    print!(rt; "shared ledger, rate {rate}")?;
+    link.route(rt, mixed(RATE, rate), ceiling, FIELDS, tick)
 }
 
 // A packet without a request, or with a fault, to the same router.
 fn does_not_ask(
     rt: &impl Print,
-    name: &[u8],
+    link: &mut Link<4>,
+    name: &str,
     packet: [u8; 28],
-    row: &mut [u64; 4],
-    ledger: Ledger,
     tick: u64,
-) -> io::Result<Ledger> {
-    let mut p = packet;
-    start(rt, name, b"ledger router")?;
-    by_ledger(rt, &mut p, 15, FIELDS, row, ledger, tick)
+) -> io::Result<()> {
+    print!(rt; "shared ledger, {name}")?;
+    link.route(rt, packet, 15, FIELDS, tick)
 }
 
 // Grants in full and for less. A router that would ask for the rate would charge more for the second packet.
-fn filling(rt: &impl Print, row: &mut [u64; 4], fresh: Ledger) -> io::Result<Ledger> {
-    let mut ledger = asks(rt, row, fresh, 6, 15, 8)?;
-    ledger = asks(rt, row, ledger, 15, 5, 8)?;
-    asks(rt, row, ledger, 15, 15, 9)
+fn filling(rt: &impl Print, link: &mut Link<4>) -> io::Result<()> {
+    asks(rt, link, 6, 15, 8)?;
+    asks(rt, link, 15, 5, 8)?;
+    asks(rt, link, 15, 15, 9)
 }
 
 // No room is left: packets are denied, and the tick moves on all the same, but not where the ledger is not asked.
-fn full(rt: &impl Print, row: &mut [u64; 4], filled: Ledger) -> io::Result<Ledger> {
-    let mut ledger = asks(rt, row, filled, 3, 15, 9)?;
-    ledger = asks(rt, row, ledger, 1, 1, 11)?;
-    ledger = asks(rt, row, ledger, 0, 15, 50)?;
-    ledger = asks(rt, row, ledger, 5, 0, 50)?;
-    let name: &[u8] = b"shared ledger, no option";
-    does_not_ask(rt, name, mixed(OPTION_TYPE, 0), row, ledger, 3)
+fn full(rt: &impl Print, link: &mut Link<4>) -> io::Result<()> {
+    asks(rt, link, 3, 15, 9)?;
+    asks(rt, link, 1, 1, 11)?;
+    asks(rt, link, 0, 15, 50)?;
+    asks(rt, link, 5, 0, 50)?;
+    does_not_ask(rt, link, "no option", mixed(OPTION_TYPE, 0), 3)
 }
 
 // Grants fall out of the row as it moves on. A tick before the stored one is refused, and so is an IP TTL of 1.
-fn freeing(rt: &impl Print, row: &mut [u64; 4], filled: Ledger) -> io::Result<Ledger> {
-    let mut ledger = asks(rt, row, filled, 15, 15, 12)?;
-    ledger = asks(rt, row, ledger, 7, 4, 12)?;
-    ledger = asks(rt, row, ledger, 5, 15, 13)?;
-    ledger = asks(rt, row, ledger, 1, 15, 12)?;
-    let name: &[u8] = b"shared ledger, ttl 1";
-    ledger = does_not_ask(rt, name, mixed(TTL, 1), row, ledger, 14)?;
-    asks(rt, row, ledger, 15, 15, 13)
+fn freeing(rt: &impl Print, link: &mut Link<4>) -> io::Result<()> {
+    asks(rt, link, 15, 15, 12)?;
+    asks(rt, link, 7, 4, 12)?;
+    asks(rt, link, 5, 15, 13)?;
+    asks(rt, link, 1, 15, 12)?;
+    does_not_ask(rt, link, "ttl 1", mixed(TTL, 1), 14)?;
+    asks(rt, link, 15, 15, 13)
 }
 
 // All grants have fallen out of the row.
-fn freed(rt: &impl Print, row: &mut [u64; 4], freeing: Ledger) -> io::Result<()> {
-    let mut ledger = asks(rt, row, freeing, 15, 15, 100)?;
-    ledger = asks(rt, row, ledger, 2, 15, 101)?;
-    let name: &[u8] = b"shared ledger, option length 0";
-    ledger = does_not_ask(rt, name, mixed(OPTION_LENGTH, 0), row, ledger, 104)?;
-    asks(rt, row, ledger, 2, 15, 104)?;
-    Ok(())
+fn freed(rt: &impl Print, link: &mut Link<4>) -> io::Result<()> {
+    asks(rt, link, 15, 15, 100)?;
+    asks(rt, link, 2, 15, 101)?;
+    does_not_ask(rt, link, "option length 0", mixed(OPTION_LENGTH, 0), 104)?;
+    asks(rt, link, 2, 15, 104)
 }
 
 fn shared_ledger(rt: &impl Print) -> io::Result<()> {
-    let mut row = [0u64; 4];
-    let mut ledger = Ledger {
-        tick: 8,
-        allowance: ALLOWANCE,
-    };
-    ledger = filling(rt, &mut row, ledger)?;
-    ledger = full(rt, &mut row, ledger)?;
-    ledger = freeing(rt, &mut row, ledger)?;
-    freed(rt, &mut row, ledger)?;
-    Ok(())
+    let mut link = Link::new([0; 4], ALLOWANCE);
+    filling(rt, &mut link)?;
+    full(rt, &mut link)?;
+    freeing(rt, &mut link)?;
+    freed(rt, &mut link)
 }
 
 fn main(rt: HostRuntime) -> io::Result<()> {
@@ -626,6 +519,5 @@ fn main(rt: HostRuntime) -> io::Result<()> {
     links_out_of_range(&rt)?;
     over_allowance(&rt)?;
     tick_before(&rt)?;
-    shared_ledger(&rt)?;
-    Ok(())
+    shared_ledger(&rt)
 }

@@ -5,135 +5,81 @@
 #![tactic(auto)]
 
 use gateway_rules::Ledger;
-use ledger::{Grant, SetUp};
-use printing::{number, numbers, refused, say};
-use refusals::Answer;
+use printing::{Numbers, Refused};
 use std::io;
 
-// The greatest allowance, 2^40.
-const MOST: u64 = 1_099_511_627_776;
+// The greatest allowance.
+const MOST: u64 = 1 << 40;
 
 // A half of 2^64.
-const HALF: u64 = 9_223_372_036_854_775_808;
+const HALF: u64 = 1 << 63;
 
-// The last tick, and the most that a slot can hold: 2^64 - 1.
-const LAST: u64 = 18_446_744_073_709_551_615;
+// The last tick, and the most that a slot can hold.
+const LAST: u64 = u64::MAX;
 
-// The sum of the slots. It is printed after an accepted call alone, where the allowance bounds it.
-fn total(row: &[u64]) -> u64 {
-    let mut sum: u64 = 0;
-    let mut i = 0;
-    while i < row.len() {
-        sum = std::num::wrapping_add_u64(sum, row[i]);
-        i += 1;
-    }
-    sum
-}
-
-// A ledger's tick, allowance and slots.
-fn show(rt: &impl Print, row: &[u64], ledger: Ledger) -> io::Result<()> {
-    say(rt, b"at")?;
-    number(rt, ledger.tick)?;
-    say(rt, b" with")?;
-    number(rt, ledger.allowance)?;
-    say(rt, b" slots")?;
-    numbers(rt, row)?;
-    say(rt, b"\n")?;
-    Ok(())
-}
-
-// The end of an accepted call's line: the row's total and the stored tick after it.
-fn afterwards(rt: &impl Print, row: &[u64], tick: u64) -> io::Result<()> {
-    say(rt, b", total")?;
-    number(rt, total(row))?;
-    say(rt, b" at")?;
-    number(rt, tick)?;
-    say(rt, b"\n")?;
-    Ok(())
-}
-
-// Sets a row up. After a refusal the record that was asked for is handed on, so that the other calls can be tried
-// with it.
-fn set_up(rt: &impl Print, row: &mut [u64], tick: u64, allowance: u64) -> io::Result<Ledger> {
-    say(rt, b"set up a row of")?;
-    number(rt, row.len() as u64)?;
-    say(rt, b" at")?;
-    number(rt, tick)?;
-    say(rt, b" with")?;
-    number(rt, allowance)?;
-    say(rt, b":")?;
-    match ledger::set_up(row, tick, allowance) {
-        SetUp::Ready(ledger) => {
-            say(rt, b" ready")?;
-            afterwards(rt, row, ledger.tick)?;
-            Ok(ledger)
-        }
-        SetUp::Refused(why) => {
-            refused(rt, why)?;
-            Ok(Ledger { tick, allowance })
-        }
-    }
-}
-
-// Moves on, and hands the record back as the call left it.
-fn move_on(rt: &impl Print, row: &mut [u64], ledger: Ledger, tick: u64) -> io::Result<Ledger> {
-    say(rt, b"move on to")?;
-    number(rt, tick)?;
-    say(rt, b":")?;
-    let moved = ledger::move_on(row, ledger, tick);
-    let left = moved.ledger;
-    let answer = moved.answer;
-    match answer {
-        Answer::Done => {
-            say(rt, b" moved")?;
-            afterwards(rt, row, left.tick)?;
-        }
-        Answer::Refused(why) => refused(rt, why)?,
-    }
-    Ok(left)
-}
-
-// Asks, and hands the record back as the call left it.
-fn ask(
-    rt: &impl Print,
-    row: &mut [u64],
+// A link: its row of slots, and its record.
+#[derive(Clone, Copy)]
+struct Link<const N: usize> {
+    row: [u64; N],
     ledger: Ledger,
-    tick: u64,
-    code: u32,
-) -> io::Result<Ledger> {
-    say(rt, b"ask")?;
-    number(rt, code as u64)?;
-    say(rt, b" at")?;
-    number(rt, tick)?;
-    say(rt, b":")?;
-    let asked = ledger::ask(row, ledger, tick, code);
-    let left = asked.ledger;
-    let answer = asked.answer;
-    match answer {
-        Grant::Code(granted) => {
-            say(rt, b" grant")?;
-            number(rt, granted as u64)?;
-            afterwards(rt, row, left.tick)?;
+}
+
+impl<const N: usize> Link<N> {
+    fn new(row: [u64; N], tick: u64, allowance: u64) -> Self {
+        let ledger = Ledger { tick, allowance };
+        Link { row, ledger }
+    }
+
+    // Its tick, allowance and slots.
+    fn show(&self, rt: &impl Print) -> io::Result<()> {
+        let Ledger { tick, allowance } = self.ledger;
+        println!(rt; "at {tick} with {allowance} slots{}", Numbers(&self.row))
+    }
+
+    // The sum of the slots. It is printed after an accepted call alone, where the allowance bounds it.
+    fn total(&self) -> u64 {
+        let mut sum: u64 = 0;
+        for slot in &self.row {
+            sum = sum.wrapping_add(*slot);
         }
-        Grant::Refused(why) => refused(rt, why)?,
+        sum
     }
-    Ok(left)
-}
 
-// The sum, or the greatest number where the sum would be above it.
-fn plus(a: u64, b: u64) -> u64 {
-    if b > LAST - a {
-        return LAST;
+    // Sets the row up at the record's tick, with its allowance. A refusal leaves the record, so that the other calls can
+    // be tried with it.
+    fn set_up(&mut self, rt: &impl Print) -> io::Result<()> {
+        let Ledger { tick, allowance } = self.ledger;
+        print!(rt; "set up a row of {N} at {tick} with {allowance}: ")?;
+        match ledger::set_up(&mut self.row, tick, allowance) {
+            Ok(ledger) => {
+                self.ledger = ledger;
+                println!(rt; "ready, total {} at {}", self.total(), ledger.tick)
+            }
+            Err(why) => println!(rt; "{}", Refused(why)),
+        }
     }
-    a + b
-}
 
-// The difference, or 0 where it would be below it.
-fn less(a: u64, b: u64) -> u64 {
-    if b > a {
-        return 0;
+    fn move_on(&mut self, rt: &impl Print, tick: u64) -> io::Result<()> {
+        print!(rt; "move on to {tick}: ")?;
+        match ledger::move_on(&mut self.row, &mut self.ledger, tick) {
+            Ok(()) => println!(rt; "moved, total {} at {}", self.total(), self.ledger.tick),
+            Err(why) => println!(rt; "{}", Refused(why)),
+        }
     }
-    a - b
+
+    fn ask(&mut self, rt: &impl Print, tick: u64, code: u32) -> io::Result<()> {
+        print!(rt; "ask {code} at {tick}: ")?;
+        match ledger::ask(&mut self.row, &mut self.ledger, tick, code) {
+            Ok(granted) => {
+                println!(rt;
+                    "grant {granted}, total {} at {}",
+                    self.total(),
+                    self.ledger.tick
+                )
+            }
+            Err(why) => println!(rt; "{}", Refused(why)),
+        }
+    }
 }
 
 // The generator's number after x; each is below 65,536.
@@ -146,418 +92,346 @@ fn ticks_by(n: u32, most: u64) -> u64 {
     match n {
         0..=6 => 0,
         7..=9 => 1,
-        10 => 2,
-        11 => 3,
-        12 => 4,
-        13 => 5,
-        14 => 6,
+        10..=14 => n as u64 - 8,
         _ => most,
     }
 }
 
 // One call of a run, of the kind of a number below 16: mostly an asking, and sometimes a call at a tick before the
 // stored one.
-fn turn(
+fn turn<const N: usize>(
     rt: &impl Print,
-    row: &mut [u64],
-    ledger: Ledger,
+    link: &mut Link<N>,
     kind: u32,
     ticks: u64,
     code: u32,
-) -> io::Result<Ledger> {
-    let later = plus(ledger.tick, ticks);
-    let earlier = less(less(ledger.tick, 1), ticks);
+) -> io::Result<()> {
+    let stored = link.ledger.tick;
+    let later = stored.saturating_add(ticks);
+    let earlier = stored.saturating_sub(1).saturating_sub(ticks);
     match kind {
-        0 => move_on(rt, row, ledger, earlier),
-        1 => ask(rt, row, ledger, earlier, code),
-        2..=4 => move_on(rt, row, ledger, later),
-        _ => ask(rt, row, ledger, later, code),
+        0 => link.move_on(rt, earlier),
+        1 => link.ask(rt, earlier, code),
+        2..=4 => link.move_on(rt, later),
+        _ => link.ask(rt, later, code),
     }
 }
 
-// A run of calls from a tick on. The generator starts at `seed`, and gives each call its kind, the ticks that it goes
-// on by, at most `most`, and a code from 0 to 17. The slots are printed after every tenth call.
-fn run(
+// Sets a row up, and runs calls on it. The generator starts at `seed`, and gives each call its kind, the ticks that it
+// goes on by, at most `most`, and a code from 0 to 17. The slots are printed after every tenth call.
+fn run<const N: usize>(
     rt: &impl Print,
-    row: &mut [u64],
-    tick: u64,
-    allowance: u64,
-    calls: u64,
+    link: &mut Link<N>,
+    calls: u32,
     seed: u32,
     most: u64,
 ) -> io::Result<()> {
-    let mut ledger = set_up(rt, row, tick, allowance)?;
+    link.set_up(rt)?;
     let mut x = seed;
-    let mut i = 0;
-    while i < calls {
+    for i in 1..=calls {
         let kind = next(x);
         let step = next(kind);
         x = next(step);
-        ledger = turn(
+        turn(
             rt,
-            row,
-            ledger,
+            link,
             kind / 4_096,
             ticks_by(step / 4_096, most),
             x / 3_641,
         )?;
-        i += 1;
         if i % 10 == 0 {
-            show(rt, row, ledger)?;
+            link.show(rt)?;
         }
     }
     Ok(())
 }
 
 fn runs(rt: &impl Print) -> io::Result<()> {
-    say(rt, b"long run:\n")?;
-    let mut five = [9u64; 5];
-    run(rt, &mut five, 1_003, 6_000_000, 270, 1, 11)?;
-    say(rt, b"run to the last tick:\n")?;
-    let mut seven = [9u64; 7];
-    run(rt, &mut seven, LAST - 45, 20_000_000, 50, 2, 15)?;
-    say(rt, b"run of one slot:\n")?;
-    let mut one = [9u64; 1];
-    run(rt, &mut one, 0, 100_000_000, 30, 3, 7)?;
-    say(rt, b"run of 64 slots:\n")?;
-    let mut most = [9u64; 64];
-    run(rt, &mut most, 100, 500_000_000, 40, 4, 50)?;
-    Ok(())
+    println!(rt; "long run:")?;
+    run(rt, &mut Link::new([9; 5], 1_003, 6_000_000), 270, 1, 11)?;
+    println!(rt; "run to the last tick:")?;
+    run(rt, &mut Link::new([9; 7], LAST - 45, 20_000_000), 50, 2, 15)?;
+    println!(rt; "run of one slot:")?;
+    run(rt, &mut Link::new([9; 1], 0, 100_000_000), 30, 3, 7)?;
+    println!(rt; "run of 64 slots:")?;
+    run(rt, &mut Link::new([9; 64], 100, 500_000_000), 40, 4, 50)
 }
 
-// Every call on a row of so many slots, at most 65. Each slot holds 7 before.
-fn row_of(rt: &impl Print, slots: usize) -> io::Result<()> {
-    if slots > 65 {
-        return Ok(());
-    }
-    let mut room = [7u64; 65];
-    let row = &mut room[..slots];
-    let fresh = set_up(rt, row, 6, 1_000_000)?;
-    show(rt, row, fresh)?;
-    let asked = ask(rt, row, fresh, 6, 1)?;
-    let moved = move_on(rt, row, asked, 7)?;
-    show(rt, row, moved)?;
-    Ok(())
+// Every call on a row of some length; each slot holds something before.
+fn every_call<const N: usize>(rt: &impl Print, mut link: Link<N>) -> io::Result<()> {
+    link.set_up(rt)?;
+    link.show(rt)?;
+    link.ask(rt, 6, 1)?;
+    link.move_on(rt, 7)?;
+    link.show(rt)
 }
 
 fn row_lengths(rt: &impl Print) -> io::Result<()> {
-    say(rt, b"row lengths:\n")?;
-    row_of(rt, 0)?;
-    row_of(rt, 1)?;
-    row_of(rt, 2)?;
-    row_of(rt, 63)?;
-    row_of(rt, 64)?;
-    row_of(rt, 65)?;
-    Ok(())
+    println!(rt; "row lengths:")?;
+    every_call(rt, Link::new([7; 0], 6, 1_000_000))?;
+    every_call(rt, Link::new([7; 1], 6, 1_000_000))?;
+    every_call(rt, Link::new([7; 2], 6, 1_000_000))?;
+    every_call(rt, Link::new([7; 63], 6, 1_000_000))?;
+    every_call(rt, Link::new([7; 64], 6, 1_000_000))?;
+    every_call(rt, Link::new([7; 65], 6, 1_000_000))
 }
 
-// Moving on and asking, each on the row and the record as they came.
-fn both(
-    rt: &impl Print,
-    came: [u64; 3],
-    stored: u64,
-    allowance: u64,
-    tick: u64,
-    code: u32,
-) -> io::Result<()> {
-    let ledger = Ledger {
-        tick: stored,
-        allowance,
-    };
-    let mut row = came;
-    show(rt, &row, ledger)?;
-    let moved = move_on(rt, &mut row, ledger, tick)?;
-    show(rt, &row, moved)?;
-    let mut again = came;
-    let asked = ask(rt, &mut again, ledger, tick, code)?;
-    show(rt, &again, asked)?;
-    Ok(())
+// Moving on and asking, each on the link as it came.
+fn both<const N: usize>(rt: &impl Print, came: Link<N>, tick: u64, code: u32) -> io::Result<()> {
+    came.show(rt)?;
+    let mut moved = came;
+    moved.move_on(rt, tick)?;
+    moved.show(rt)?;
+    let mut asked = came;
+    asked.ask(rt, tick, code)?;
+    asked.show(rt)
 }
 
 // Every call with an allowance; the row to set up holds something before.
 fn allowance_of(rt: &impl Print, allowance: u64) -> io::Result<()> {
-    let mut row = [1, 2, 3];
-    let ledger = set_up(rt, &mut row, 5, allowance)?;
-    show(rt, &row, ledger)?;
-    both(rt, [0, 0, 0], 5, allowance, 6, 1)?;
-    Ok(())
+    let mut link = Link::new([1, 2, 3], 5, allowance);
+    link.set_up(rt)?;
+    link.show(rt)?;
+    both(rt, Link::new([0; 3], 5, allowance), 6, 1)
 }
 
 fn allowances(rt: &impl Print) -> io::Result<()> {
-    say(rt, b"allowances:\n")?;
-    allowance_of(rt, 0)?;
-    allowance_of(rt, 1)?;
-    allowance_of(rt, MOST)?;
-    allowance_of(rt, MOST + 1)?;
-    allowance_of(rt, LAST)?;
+    println!(rt; "allowances:")?;
+    for allowance in [0, 1, MOST, MOST + 1, LAST] {
+        allowance_of(rt, allowance)?;
+    }
     Ok(())
 }
 
 // Codes on both sides of their range, one after the other on one row.
 fn codes(rt: &impl Print) -> io::Result<()> {
-    say(rt, b"codes:\n")?;
-    let mut row = [80_000, 0, 160_000];
-    let mut ledger = Ledger {
-        tick: 5,
-        allowance: 10_000_000_000,
-    };
-    ledger = ask(rt, &mut row, ledger, 6, 0)?;
-    ledger = ask(rt, &mut row, ledger, 6, 16)?;
-    ledger = ask(rt, &mut row, ledger, 6, u32::MAX)?;
-    show(rt, &row, ledger)?;
-    ledger = ask(rt, &mut row, ledger, 6, 1)?;
-    show(rt, &row, ledger)?;
-    ledger = ask(rt, &mut row, ledger, 7, 15)?;
-    show(rt, &row, ledger)?;
-    ledger = ask(rt, &mut row, ledger, 8, 0)?;
-    ledger = ask(rt, &mut row, ledger, 8, 16)?;
-    show(rt, &row, ledger)?;
-    Ok(())
+    println!(rt; "codes:")?;
+    let mut link = Link::new([80_000, 0, 160_000], 5, 10_000_000_000);
+    link.ask(rt, 6, 0)?;
+    link.ask(rt, 6, 16)?;
+    link.ask(rt, 6, u32::MAX)?;
+    link.show(rt)?;
+    link.ask(rt, 6, 1)?;
+    link.show(rt)?;
+    link.ask(rt, 7, 15)?;
+    link.show(rt)?;
+    link.ask(rt, 8, 0)?;
+    link.ask(rt, 8, 16)?;
+    link.show(rt)
 }
 
 // Totals at the allowance and above it, also where going to the tick would make room.
 fn totals(rt: &impl Print) -> io::Result<()> {
-    say(rt, b"totals:\n")?;
-    both(rt, [500_000, 300_000, 200_000], 5, 1_000_000, 5, 1)?;
-    both(rt, [500_000, 300_000, 200_001], 5, 1_000_000, 5, 1)?;
-    both(rt, [500_000, 300_000, 200_000], 5, 1_000_000, 6, 15)?;
-    both(rt, [500_000, 300_000, 200_001], 5, 1_000_000, 6, 15)?;
-    both(rt, [500_000, 300_000, 200_001], 5, 1_000_000, 9, 15)?;
-    both(rt, [0, 0, 1], 5, 0, 8, 1)?;
-    both(rt, [0, 0, 0], 5, 0, 8, 1)?;
-    both(rt, [MOST, 0, 0], 5, MOST, 5, 1)?;
-    both(rt, [MOST, 0, 1], 5, MOST, 5, 1)?;
-    both(rt, [MOST, MOST, MOST], 5, MOST, 6, 1)?;
+    println!(rt; "totals:")?;
+    for (row, allowance, tick, code) in [
+        ([500_000, 300_000, 200_000], 1_000_000, 5, 1),
+        ([500_000, 300_000, 200_001], 1_000_000, 5, 1),
+        ([500_000, 300_000, 200_000], 1_000_000, 6, 15),
+        ([500_000, 300_000, 200_001], 1_000_000, 6, 15),
+        ([500_000, 300_000, 200_001], 1_000_000, 9, 15),
+        ([0, 0, 1], 0, 8, 1),
+        ([0, 0, 0], 0, 8, 1),
+        ([MOST, 0, 0], MOST, 5, 1),
+        ([MOST, 0, 1], MOST, 5, 1),
+        ([MOST, MOST, MOST], MOST, 6, 1),
+    ] {
+        both(rt, Link::new(row, 5, allowance), tick, code)?;
+    }
     Ok(())
 }
 
 // Rows with slots so great that their sum passes 2^64. Most sums come out small in 64 bits, and within the allowance.
 fn sums(rt: &impl Print) -> io::Result<()> {
-    say(rt, b"sums past 2^64:\n")?;
-    both(rt, [HALF, HALF, 5], 5, 1_000_000, 5, 1)?;
-    both(rt, [HALF, HALF, 0], 5, 1_000_000, 6, 1)?;
-    both(rt, [5, LAST, 1], 5, 1_000_000, 5, 1)?;
-    both(rt, [LAST, LAST, LAST], 5, 1_000_000, 5, 1)?;
-    both(rt, [LAST, LAST, 2], 5, 1_000_000, 8, 1)?;
-    both(rt, [0, 0, LAST], 5, MOST, 5, 1)?;
-    both(rt, [1_000_001, LAST, 0], 5, 1_000_000, 5, 1)?;
+    println!(rt; "sums past 2^64:")?;
+    for (row, allowance, tick) in [
+        ([HALF, HALF, 5], 1_000_000, 5),
+        ([HALF, HALF, 0], 1_000_000, 6),
+        ([5, LAST, 1], 1_000_000, 5),
+        ([LAST, LAST, LAST], 1_000_000, 5),
+        ([LAST, LAST, 2], 1_000_000, 8),
+        ([0, 0, LAST], MOST, 5),
+        ([1_000_001, LAST, 0], 1_000_000, 5),
+    ] {
+        both(rt, Link::new(row, 5, allowance), tick, 1)?;
+    }
     Ok(())
 }
 
 // The same with 64 slots of 2^58, and a row that is too long besides.
 fn long_sums(rt: &impl Print) -> io::Result<()> {
-    say(rt, b"sums of long rows:\n")?;
-    let ledger = Ledger {
-        tick: 5,
-        allowance: 1_000_000,
-    };
-    let mut row = [HALF / 32; 64];
-    let moved = move_on(rt, &mut row, ledger, 5)?;
-    let asked = ask(rt, &mut row, moved, 70, 1)?;
-    show(rt, &row, asked)?;
-    let mut long = [LAST; 65];
-    let before = move_on(rt, &mut long, ledger, 4)?;
-    let none = ask(rt, &mut long, before, 4, 1)?;
-    show(rt, &long, none)?;
-    Ok(())
+    println!(rt; "sums of long rows:")?;
+    let mut link = Link::new([HALF / 32; 64], 5, 1_000_000);
+    link.move_on(rt, 5)?;
+    link.ask(rt, 70, 1)?;
+    link.show(rt)?;
+    let mut long = Link::new([LAST; 65], 5, 1_000_000);
+    long.move_on(rt, 4)?;
+    long.ask(rt, 4, 1)?;
+    long.show(rt)
 }
 
 // Ticks before, at and after the stored one.
 fn ticks(rt: &impl Print) -> io::Result<()> {
-    say(rt, b"ticks:\n")?;
-    both(rt, [80_000, 160_000, 320_000], 5, 1_000_000, 4, 2)?;
-    both(rt, [80_000, 160_000, 320_000], 5, 1_000_000, 5, 2)?;
-    both(rt, [80_000, 160_000, 320_000], 5, 1_000_000, 6, 2)?;
-    both(rt, [80_000, 160_000, 320_000], 5, 1_000_000, 0, 2)?;
-    both(rt, [80_000, 160_000, 320_000], 0, 1_000_000, 0, 2)?;
-    both(rt, [80_000, 160_000, 320_000], 1, 1_000_000, 0, 2)?;
-    both(rt, [80_000, 160_000, 320_000], LAST, 1_000_000, LAST, 2)?;
-    both(rt, [80_000, 160_000, 320_000], LAST, 1_000_000, LAST - 1, 2)?;
-    both(rt, [80_000, 160_000, 320_000], LAST - 1, 1_000_000, LAST, 2)?;
+    println!(rt; "ticks:")?;
+    for (stored, tick) in [
+        (5, 4),
+        (5, 5),
+        (5, 6),
+        (5, 0),
+        (0, 0),
+        (1, 0),
+        (LAST, LAST),
+        (LAST, LAST - 1),
+        (LAST - 1, LAST),
+    ] {
+        let link = Link::new([80_000, 160_000, 320_000], stored, 1_000_000);
+        both(rt, link, tick, 2)?;
+    }
     Ok(())
 }
 
 // Calls with several faults, of which the first in the order 7, 8, 9 is named.
 fn several_faults(rt: &impl Print) -> io::Result<()> {
-    say(rt, b"several faults:\n")?;
-    both(rt, [500_000, 500_000, 1], 5, 1_000_000, 4, 16)?;
-    both(rt, [500_000, 500_000, 1], 5, 1_000_000, 4, 15)?;
-    both(rt, [500_000, 500_000, 1], 5, 1_000_000, 5, 0)?;
-    both(rt, [500_000, 0, 1], 5, 1_000_000, 4, 0)?;
-    both(rt, [LAST, LAST, LAST], 5, MOST + 1, 4, 1)?;
-    both(rt, [500_000, 0, 1], 5, MOST + 1, 4, 1)?;
+    println!(rt; "several faults:")?;
+    for (row, allowance, tick, code) in [
+        ([500_000, 500_000, 1], 1_000_000, 4, 16),
+        ([500_000, 500_000, 1], 1_000_000, 4, 15),
+        ([500_000, 500_000, 1], 1_000_000, 5, 0),
+        ([500_000, 0, 1], 1_000_000, 4, 0),
+        ([LAST, LAST, LAST], MOST + 1, 4, 1),
+        ([500_000, 0, 1], MOST + 1, 4, 1),
+    ] {
+        both(rt, Link::new(row, 5, allowance), tick, code)?;
+    }
     Ok(())
 }
 
 // Asks for the highest code with an allowance, where other ticks have approved 1,000,003 bits a second.
 fn ask_beside(rt: &impl Print, allowance: u64) -> io::Result<()> {
-    let mut row = [600_001, 0, 400_002];
-    let ledger = Ledger { tick: 7, allowance };
-    let asked = ask(rt, &mut row, ledger, 7, 15)?;
-    show(rt, &row, asked)?;
-    Ok(())
+    let mut link = Link::new([600_001, 0, 400_002], 7, allowance);
+    link.ask(rt, 7, 15)?;
+    link.show(rt)
 }
 
 // Room for exactly the rate of each code, from 1 to 15, and for one bit a second less.
 fn rooms(rt: &impl Print) -> io::Result<()> {
-    say(rt, b"room for each rate, and a bit less:\n")?;
-    let mut rate: u64 = 80_000;
-    while rate <= 1_310_720_000 {
+    println!(rt; "room for each rate, and a bit less:")?;
+    for code in 1..=15u32 {
+        let rate = 40_000u64 << code;
         ask_beside(rt, 1_000_003 + rate)?;
         ask_beside(rt, 1_000_002 + rate)?;
-        rate *= 2;
     }
     Ok(())
 }
 
 // Askings with an allowance near the lowest rates. The tick moves on also where the grant is 0.
 fn low_allowance(rt: &impl Print, allowance: u64) -> io::Result<()> {
-    let mut row = [0u64; 5];
-    let fresh = set_up(rt, &mut row, 12, allowance)?;
-    let first = ask(rt, &mut row, fresh, 14, 15)?;
-    show(rt, &row, first)?;
-    let second = ask(rt, &mut row, first, 14, 1)?;
-    let third = ask(rt, &mut row, second, 18, 1)?;
-    let fourth = ask(rt, &mut row, third, 19, 1)?;
-    show(rt, &row, fourth)?;
-    Ok(())
+    let mut link = Link::new([0; 5], 12, allowance);
+    link.set_up(rt)?;
+    link.ask(rt, 14, 15)?;
+    link.show(rt)?;
+    link.ask(rt, 14, 1)?;
+    link.ask(rt, 18, 1)?;
+    link.ask(rt, 19, 1)?;
+    link.show(rt)
 }
 
 fn low_allowances(rt: &impl Print) -> io::Result<()> {
-    say(rt, b"low allowances:\n")?;
-    low_allowance(rt, 79_999)?;
-    low_allowance(rt, 80_000)?;
-    low_allowance(rt, 159_999)?;
-    low_allowance(rt, 160_000)?;
+    println!(rt; "low allowances:")?;
+    for allowance in [79_999, 80_000, 159_999, 160_000] {
+        low_allowance(rt, allowance)?;
+    }
     Ok(())
 }
 
 // All of the greatest allowance is free: the grant is the code asked.
 fn much_room(rt: &impl Print) -> io::Result<()> {
-    say(rt, b"much room:\n")?;
-    let mut row = [0u64; 5];
-    let mut ledger = set_up(rt, &mut row, 12, MOST)?;
-    ledger = ask(rt, &mut row, ledger, 12, 15)?;
-    ledger = ask(rt, &mut row, ledger, 12, 15)?;
-    ledger = ask(rt, &mut row, ledger, 13, 14)?;
-    ledger = ask(rt, &mut row, ledger, 13, 1)?;
-    ledger = ask(rt, &mut row, ledger, 13, 3)?;
-    show(rt, &row, ledger)?;
-    Ok(())
-}
-
-// Asks for a code at each tick from one up to another, that one not counted.
-fn ask_through(
-    rt: &impl Print,
-    row: &mut [u64],
-    ledger: Ledger,
-    from: u64,
-    to: u64,
-    code: u32,
-) -> io::Result<Ledger> {
-    let mut left = ledger;
-    let mut tick = from;
-    while tick < to {
-        left = ask(rt, row, left, tick, code)?;
-        show(rt, row, left)?;
-        tick += 1;
+    println!(rt; "much room:")?;
+    let mut link = Link::new([0; 5], 12, MOST);
+    link.set_up(rt)?;
+    for (tick, code) in [(12, 15), (12, 15), (13, 14), (13, 1), (13, 3)] {
+        link.ask(rt, tick, code)?;
     }
-    Ok(left)
+    link.show(rt)
 }
 
 // A row that is filled until nothing is left. Then the oldest grants fall out of it, tick by tick, and as many ticks
 // after the last grant as there are slots all is free again.
 fn filling(rt: &impl Print) -> io::Result<()> {
-    say(rt, b"filling:\n")?;
-    let mut row = [0u64; 5];
-    let mut ledger = set_up(rt, &mut row, 12, 2_000_000)?;
-    ledger = ask(rt, &mut row, ledger, 12, 15)?;
-    ledger = ask(rt, &mut row, ledger, 13, 3)?;
-    ledger = ask(rt, &mut row, ledger, 13, 15)?;
-    ledger = ask(rt, &mut row, ledger, 14, 15)?;
-    ledger = ask(rt, &mut row, ledger, 15, 2)?;
-    ledger = ask(rt, &mut row, ledger, 16, 15)?;
-    show(rt, &row, ledger)?;
-    ledger = ask_through(rt, &mut row, ledger, 16, 24, 3)?;
-    ledger = move_on(rt, &mut row, ledger, 27)?;
-    show(rt, &row, ledger)?;
-    ledger = move_on(rt, &mut row, ledger, 28)?;
-    show(rt, &row, ledger)?;
-    ask(rt, &mut row, ledger, 28, 15)?;
-    Ok(())
+    println!(rt; "filling:")?;
+    let mut link = Link::new([0; 5], 12, 2_000_000);
+    link.set_up(rt)?;
+    for (tick, code) in [(12, 15), (13, 3), (13, 15), (14, 15), (15, 2), (16, 15)] {
+        link.ask(rt, tick, code)?;
+    }
+    link.show(rt)?;
+    for tick in 16..24 {
+        link.ask(rt, tick, 3)?;
+        link.show(rt)?;
+    }
+    for tick in [27, 28] {
+        link.move_on(rt, tick)?;
+        link.show(rt)?;
+    }
+    link.ask(rt, 28, 15)
 }
 
 // A row with a grant at each tick of its length; it moves on to the tick where it stands, then by some ticks.
-fn away(rt: &impl Print, row: &mut [u64], ticks: u64) -> io::Result<()> {
-    let slots = row.len() as u64;
-    let mut ledger = set_up(rt, row, 201, 10_000_000)?;
-    let mut i = 0;
-    while i < slots {
-        ledger = ask(rt, row, ledger, plus(201, i), 1 + (i % 2) as u32)?;
-        i += 1;
+fn away<const N: usize>(rt: &impl Print, link: &mut Link<N>, ticks: u64) -> io::Result<()> {
+    link.ledger = Ledger {
+        tick: 201,
+        allowance: 10_000_000,
+    };
+    link.set_up(rt)?;
+    for i in 0..N as u64 {
+        link.ask(rt, i.saturating_add(201), 1 + (i % 2) as u32)?;
     }
-    ledger = move_on(rt, row, ledger, ledger.tick)?;
-    show(rt, row, ledger)?;
-    ledger = move_on(rt, row, ledger, plus(ledger.tick, ticks))?;
-    show(rt, row, ledger)?;
-    ask(rt, row, ledger, ledger.tick, 15)?;
-    Ok(())
+    let stored = link.ledger.tick;
+    link.move_on(rt, stored)?;
+    link.show(rt)?;
+    let last = stored.saturating_add(ticks);
+    link.move_on(rt, last)?;
+    link.show(rt)?;
+    link.ask(rt, last, 15)
 }
 
 fn moves(rt: &impl Print) -> io::Result<()> {
-    say(rt, b"moves of 5 slots:\n")?;
-    let mut five = [0u64; 5];
-    away(rt, &mut five, 0)?;
-    away(rt, &mut five, 1)?;
-    away(rt, &mut five, 2)?;
-    away(rt, &mut five, 4)?;
-    away(rt, &mut five, 5)?;
-    away(rt, &mut five, 6)?;
-    away(rt, &mut five, 10)?;
-    say(rt, b"moves of one slot:\n")?;
-    let mut one = [0u64; 1];
-    away(rt, &mut one, 0)?;
-    away(rt, &mut one, 1)?;
-    away(rt, &mut one, 2)?;
+    println!(rt; "moves of 5 slots:")?;
+    let mut five = Link::new([0; 5], 0, 0);
+    for ticks in [0, 1, 2, 4, 5, 6, 10] {
+        away(rt, &mut five, ticks)?;
+    }
+    println!(rt; "moves of one slot:")?;
+    let mut one = Link::new([0; 1], 0, 0);
+    for ticks in [0, 1, 2] {
+        away(rt, &mut one, ticks)?;
+    }
     Ok(())
 }
 
 // A full row of 64 slots at tick 201, moved on.
-fn full_to(rt: &impl Print, tick: u64) -> io::Result<()> {
-    let mut row = [10_000u64; 64];
-    let ledger = Ledger {
-        tick: 201,
-        allowance: 640_000,
-    };
-    let moved = move_on(rt, &mut row, ledger, tick)?;
-    show(rt, &row, moved)?;
-    Ok(())
-}
-
 fn long_moves(rt: &impl Print) -> io::Result<()> {
-    say(rt, b"moves of 64 slots:\n")?;
-    full_to(rt, 201)?;
-    full_to(rt, 202)?;
-    full_to(rt, 263)?;
-    full_to(rt, 264)?;
-    full_to(rt, 265)?;
-    full_to(rt, 266)?;
+    println!(rt; "moves of 64 slots:")?;
+    for tick in [201, 202, 263, 264, 265, 266] {
+        let mut link = Link::new([10_000; 64], 201, 640_000);
+        link.move_on(rt, tick)?;
+        link.show(rt)?;
+    }
     Ok(())
 }
 
 // The longest way that a call can go on by.
 fn far(rt: &impl Print) -> io::Result<()> {
-    say(rt, b"from the first tick to the last:\n")?;
-    let mut row = [0u64; 5];
-    let mut ledger = set_up(rt, &mut row, 0, 1_000_000)?;
-    ledger = ask(rt, &mut row, ledger, 0, 4)?;
-    show(rt, &row, ledger)?;
-    ledger = ask(rt, &mut row, ledger, LAST, 2)?;
-    show(rt, &row, ledger)?;
-    ledger = ask(rt, &mut row, ledger, LAST, 15)?;
-    ledger = move_on(rt, &mut row, ledger, LAST - 1)?;
-    show(rt, &row, ledger)?;
-    Ok(())
+    println!(rt; "from the first tick to the last:")?;
+    let mut link = Link::new([0; 5], 0, 1_000_000);
+    link.set_up(rt)?;
+    link.ask(rt, 0, 4)?;
+    link.show(rt)?;
+    link.ask(rt, LAST, 2)?;
+    link.show(rt)?;
+    link.ask(rt, LAST, 15)?;
+    link.move_on(rt, LAST - 1)?;
+    link.show(rt)
 }
 
 fn main(rt: HostRuntime) -> io::Result<()> {
@@ -576,6 +450,5 @@ fn main(rt: HostRuntime) -> io::Result<()> {
     filling(&rt)?;
     moves(&rt)?;
     long_moves(&rt)?;
-    far(&rt)?;
-    Ok(())
+    far(&rt)
 }

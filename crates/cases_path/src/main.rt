@@ -12,9 +12,15 @@ mod lengths;
 mod others;
 
 fn main(rt: HostRuntime) -> io::Result<()> {
-    accepted::run(&rt)?;
-    others::run(&rt)?;
-    faults::run(&rt)?;
-    lengths::run(&rt)?;
+    for group in [
+        accepted::CASES,
+        others::CASES,
+        faults::CASES,
+        lengths::CASES,
+    ] {
+        for cases in group {
+            inputs::run(&rt, cases)?;
+        }
+    }
     Ok(())
 }

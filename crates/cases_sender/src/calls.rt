@@ -1,12 +1,12 @@
 // The calls of a connection, each printed as a line: the call with its numbers, the answer, the buffer after asking, and
-// the record that was handed back. Each hands the record on as the call left it.
-use accepting::ResponseAnswer;
-use echo::EchoAnswer;
-use phase::PhaseAnswer;
-use printing::{bytes, number, say};
-use refusals::{Answer, Refusal};
-use sender_rules::{Connection, Mark, Moment, OpenRequest, Sample, State};
-use std::io;
+// the record as the call left it, which is handed on. A record is taken by value, so that a case can go on from any.
+use connection::MOST_SAMPLES;
+use printing::{Bytes, Outcome, Refused};
+use refusals::Refusal;
+use sender_rules::{Connection, Sample, State, Wish};
+use std::fmt::Display;
+use std::{fmt, io};
+use wire_rules::Transport;
 
 // The relay's round trip, a segment, its headers and the initial window.
 pub const RELAY: u64 = 600_000;
@@ -21,7 +21,7 @@ pub const INITIAL: u64 = 4_380;
 pub const MOST: u64 = 1_099_511_627_776;
 
 // The last time, 2^64 - 1.
-pub const END: u64 = 18_446_744_073_709_551_615;
+pub const END: u64 = u64::MAX;
 
 // The greatest nonce: every bit of it is set.
 pub const ONES: u32 = 1_073_741_823;
@@ -29,415 +29,273 @@ pub const ONES: u32 = 1_073_741_823;
 // A nonce of the fields 2, 1, 0, five times.
 pub const FIELDS: u32 = 613_566_756;
 
-// The response to a request for 8 with that nonce, sent with an IP TTL of 64 and a QS TTL of 128.
+// Asking for 8 on the relay at time 0.
+pub const WISH: Wish = Wish {
+    code: 8,
+    ttl: 64,
+    qs_ttl: 128,
+    nonce: FIELDS,
+    rtt: RELAY,
+    time: 0,
+};
+
+// The relay, and the response there to a request for 8 with that nonce, sent with an IP TTL of 64 and a QS TTL of 128.
+pub const TRANSPORT: Transport = Transport {
+    rtt: RELAY,
+    mss: SEGMENT,
+    headers: HEADERS,
+};
+
 pub const GOOD: [u8; 8] = *b"\x1b\x08\x08\xc0\x92\x49\x24\x90";
 
 // No response, nor a request.
-pub const NEITHER: [u8; 8] = *b"\xee\xee\xee\xee\xee\xee\xee\xee";
+pub const NEITHER: [u8; 8] = [0xee; 8];
 
-// A number behind its name.
-fn named(rt: &impl Print, name: &[u8], n: u64) -> io::Result<()> {
-    say(rt, name)?;
-    number(rt, n)?;
-    Ok(())
-}
+// ---- a record in a line
 
-fn show_request(rt: &impl Print, request: OpenRequest) -> io::Result<()> {
-    named(rt, b" asked", request.code as u64)?;
-    number(rt, request.ttl_diff as u64)?;
-    number(rt, request.nonce as u64)?;
-    Ok(())
-}
+#[derive(Drop)]
+struct Status(State);
 
-fn show_state(rt: &impl Print, state: State) -> io::Result<()> {
-    match state {
-        State::Idle => say(rt, b" idle"),
-        State::Asked(request) => show_request(rt, request),
-        State::Quick(before) => named(rt, b" quick", before.window),
-    }
-}
-
-fn show_moment(rt: &impl Print, name: &[u8], moment: Moment) -> io::Result<()> {
-    if let Moment::At(time) = moment {
-        named(rt, name, time)?;
-    }
-    Ok(())
-}
-
-fn show_mark(rt: &impl Print, mark: Mark) -> io::Result<()> {
-    if let Mark::At(highest) = mark {
-        named(rt, b" mark", highest as u64)?;
-    }
-    Ok(())
-}
-
-fn show_sample(rt: &impl Print, sample: Sample) -> io::Result<()> {
-    number(rt, sample.bytes)?;
-    named(rt, b" at", sample.time)?;
-    Ok(())
-}
-
-// The first places of a row, as many as there are up to `count`.
-fn show_places(rt: &impl Print, row: [Sample; 5], count: usize) -> io::Result<()> {
-    let mut i = 0;
-    while i < 5 && i < count {
-        if i > 0 {
-            say(rt, b",")?;
+impl Display for Status {
+    fn fmt<W: fmt::Write>(&self, f: &mut fmt::Formatter<W>) -> fmt::Result {
+        match self.0 {
+            State::Idle => write!(f, "idle"),
+            State::Asked(open) => {
+                write!(f, "asked {} {} {}", open.code, open.ttl_diff, open.nonce)
+            }
+            State::Quick(before) => write!(f, "quick {}", before.window),
         }
-        let sample = row[i];
-        show_sample(rt, sample)?;
-        i += 1;
     }
-    Ok(())
 }
 
-fn show_samples(rt: &impl Print, row: [Sample; 5], count: usize) -> io::Result<()> {
-    if count > 0 {
-        say(rt, b"; samples")?;
-        show_places(rt, row, count)?;
+// A number behind its name, if there is one.
+#[derive(Drop)]
+struct Stored(&'static str, Option<u64>);
+
+impl Display for Stored {
+    fn fmt<W: fmt::Write>(&self, f: &mut fmt::Formatter<W>) -> fmt::Result {
+        match self.1 {
+            Some(n) => write!(f, " {} {n}", self.0),
+            None => Ok(()),
+        }
     }
-    say(rt, b"\n")?;
-    Ok(())
 }
 
-fn show_window(rt: &impl Print, window: u64, ssthresh: u64) -> io::Result<()> {
-    named(rt, b"; window", window)?;
-    named(rt, b" ssthresh", ssthresh)?;
-    Ok(())
+#[derive(Drop)]
+struct Samples<'a>(&'a [Sample]);
+
+impl Display for Samples<'_> {
+    fn fmt<W: fmt::Write>(&self, f: &mut fmt::Formatter<W>) -> fmt::Result {
+        for (place, sample) in self.0.iter().enumerate() {
+            let comma = if place > 0 { "," } else { "" };
+            write!(f, "{comma} {} at {}", sample.bytes, sample.time)?;
+        }
+        Ok(())
+    }
 }
 
-fn show_moments(rt: &impl Print, last: Moment, mark: Mark, period: Moment) -> io::Result<()> {
-    show_moment(rt, b" last", last)?;
-    show_mark(rt, mark)?;
-    show_moment(rt, b" period", period)?;
-    Ok(())
+// The samples that count, up to the places that there are.
+#[derive(Drop)]
+struct Counted<'a>(&'a Connection);
+
+impl Display for Counted<'_> {
+    fn fmt<W: fmt::Write>(&self, f: &mut fmt::Formatter<W>) -> fmt::Result {
+        let count = self.0.count.min(MOST_SAMPLES);
+        if count == 0 {
+            return Ok(());
+        }
+        write!(f, "; samples{}", Samples(&self.0.samples[..count]))
+    }
 }
 
-// The end of a line with a record.
-fn show(rt: &impl Print, c: Connection) -> io::Result<()> {
-    show_window(rt, c.window, c.ssthresh)?;
-    let state = c.state;
-    show_state(rt, state)?;
-    let last = c.last_request;
-    let mark = c.mark;
-    let period = c.period;
-    show_moments(rt, last, mark, period)?;
-    let row = c.samples;
-    show_samples(rt, row, c.count)?;
-    Ok(())
+#[derive(Drop)]
+struct Record(Connection);
+
+impl Display for Record {
+    fn fmt<W: fmt::Write>(&self, f: &mut fmt::Formatter<W>) -> fmt::Result {
+        let c = &self.0;
+        write!(
+            f,
+            "; window {} ssthresh {} {}",
+            c.window,
+            c.ssthresh,
+            Status(c.state)
+        )?;
+        let mark = c.mark.map(|highest| highest as u64);
+        write!(
+            f,
+            "{}{}",
+            Stored("last", c.last_request),
+            Stored("mark", mark)
+        )?;
+        write!(f, "{}{}", Stored("period", c.period), Counted(c))
+    }
 }
 
 // All places of a record's samples, also those that do not count.
 pub fn places(rt: &impl Print, c: Connection) -> io::Result<()> {
-    named(rt, b"places, count", c.count as u64)?;
-    say(rt, b":")?;
-    let row = c.samples;
-    show_places(rt, row, 5)?;
-    say(rt, b"\n")?;
-    Ok(())
+    println!(rt; "places, count {}:{}", c.count, Samples(&c.samples))
 }
 
-fn refused(rt: &impl Print, why: Refusal) -> io::Result<()> {
-    named(rt, b": refused", why.number() as u64)?;
-    Ok(())
-}
+// ---- calls
 
 // A fresh record. Of one that is refused the line has the refusal alone.
 pub fn fresh(rt: &impl Print, window: u64, ssthresh: u64) -> io::Result<Connection> {
-    named(rt, b"fresh", window)?;
-    number(rt, ssthresh)?;
-    let opened = connection::fresh(window, ssthresh);
-    let answer = opened.answer;
-    let c = opened.connection;
-    match answer {
-        Answer::Done => {
-            say(rt, b": ready")?;
-            show(rt, c)?;
-        }
-        Answer::Refused(why) => {
-            refused(rt, why)?;
-            say(rt, b"\n")?;
-        }
+    print!(rt; "fresh {window} {ssthresh}: ")?;
+    match connection::fresh(window, ssthresh) {
+        Ok(c) => println!(rt; "ready{}", Record(c))?,
+        Err(why) => println!(rt; "{}", Refused(why))?,
+    }
+    Ok(connection::fresh_record(window, ssthresh))
+}
+
+// The end of a call's line.
+fn left(rt: &impl Print, answer: Result<&str, Refusal>, c: Connection) -> io::Result<Connection> {
+    println!(rt; ": {}{}", Outcome(answer), Record(c))?;
+    Ok(c)
+}
+
+// The same for a call that answers no more than that it was done.
+fn left_done(
+    rt: &impl Print,
+    answer: Result<(), Refusal>,
+    c: Connection,
+) -> io::Result<Connection> {
+    left(rt, answer.map(|()| "done"), c)
+}
+
+// The same for a call that answers whether something is so.
+fn left_whether(
+    rt: &impl Print,
+    answer: Result<bool, Refusal>,
+    yes: &str,
+    no: &str,
+    c: Connection,
+) -> io::Result<Connection> {
+    left(rt, answer.map(|so| if so { yes } else { no }), c)
+}
+
+pub fn ask_into(
+    rt: &impl Print,
+    mut c: Connection,
+    wish: Wish,
+    request: &mut [u8],
+) -> io::Result<Connection> {
+    print!(rt;
+        "ask {} ttl {} {} nonce {}",
+        wish.code, wish.ttl, wish.qs_ttl, wish.nonce
+    )?;
+    print!(rt; " T {} at {}", wish.rtt, wish.time)?;
+    let answer = asking::ask(&mut c, wish, request).map(|()| "written");
+    println!(rt; ": {},{}{}", Outcome(answer), Bytes(request), Record(c))?;
+    Ok(c)
+}
+
+// Asking into a buffer of eight bytes, which hold something before.
+pub fn ask(rt: &impl Print, c: Connection, wish: Wish) -> io::Result<Connection> {
+    let mut request = NEITHER;
+    ask_into(rt, c, wish, &mut request)
+}
+
+pub fn respond(
+    rt: &impl Print,
+    mut c: Connection,
+    response: &[u8],
+    transport: Transport,
+) -> io::Result<Connection> {
+    let Transport { rtt, mss, headers } = transport;
+    print!(rt;
+        "take response{} T {rtt} MSS {mss} H {headers}",
+        Bytes(response)
+    )?;
+    match accepting::take_response(&mut c, response, transport) {
+        Ok(rate) => println!(rt; ": accepted {rate}{}", Record(c))?,
+        Err(why) => println!(rt; ": {}{}", Refused(why), Record(c))?,
     }
     Ok(c)
 }
 
-fn asking(
-    rt: &impl Print,
-    code: u32,
-    ttl: u8,
-    qs_ttl: u8,
-    nonce: u32,
-    rtt: u64,
-    time: u64,
-) -> io::Result<()> {
-    named(rt, b"ask", code as u64)?;
-    named(rt, b" ttl", ttl as u64)?;
-    number(rt, qs_ttl as u64)?;
-    named(rt, b" nonce", nonce as u64)?;
-    named(rt, b" T", rtt)?;
-    named(rt, b" at", time)?;
-    Ok(())
+pub fn acknowledged(rt: &impl Print, mut c: Connection, flight: u64) -> io::Result<Connection> {
+    print!(rt; "acknowledged {flight}")?;
+    let answer = ending::first_acknowledgement(&mut c, flight);
+    left_done(rt, answer, c)
 }
 
-// The answer, and the buffer after it.
-fn sent(rt: &impl Print, answer: Answer, request: &[u8]) -> io::Result<()> {
-    match answer {
-        Answer::Done => say(rt, b": written")?,
-        Answer::Refused(why) => refused(rt, why)?,
-    }
-    say(rt, b",")?;
-    bytes(rt, request)?;
-    Ok(())
+pub fn loss(rt: &impl Print, mut c: Connection) -> io::Result<Connection> {
+    print!(rt; "loss")?;
+    let answer = ending::loss(&mut c);
+    left_done(rt, answer, c)
 }
 
-// Each call hands the record back as the sender's call left it.
-pub fn ask_into(
-    rt: &impl Print,
-    c: Connection,
-    code: u32,
-    ttl: u8,
-    qs_ttl: u8,
-    nonce: u32,
-    rtt: u64,
-    time: u64,
-    request: &mut [u8],
-) -> io::Result<Connection> {
-    asking(rt, code, ttl, qs_ttl, nonce, rtt, time)?;
-    let asked = asking::ask(c, code, ttl, qs_ttl, nonce, rtt, time, request);
-    let answer = asked.answer;
-    let left = asked.connection;
-    sent(rt, answer, request)?;
-    show(rt, left)?;
-    Ok(left)
-}
-
-// Asking into a buffer of eight bytes, which hold something before.
-pub fn ask(
-    rt: &impl Print,
-    c: Connection,
-    code: u32,
-    ttl: u8,
-    qs_ttl: u8,
-    nonce: u32,
-    rtt: u64,
-    time: u64,
-) -> io::Result<Connection> {
-    let mut request = NEITHER;
-    ask_into(rt, c, code, ttl, qs_ttl, nonce, rtt, time, &mut request)
-}
-
-fn responding(
-    rt: &impl Print,
-    response: &[u8],
-    rtt: u64,
-    mss: u64,
-    headers: u64,
-) -> io::Result<()> {
-    say(rt, b"take response")?;
-    bytes(rt, response)?;
-    named(rt, b" T", rtt)?;
-    named(rt, b" MSS", mss)?;
-    named(rt, b" H", headers)?;
-    Ok(())
-}
-
-fn judged(rt: &impl Print, answer: ResponseAnswer) -> io::Result<()> {
-    match answer {
-        ResponseAnswer::Accepted(rate) => named(rt, b": accepted", rate as u64),
-        ResponseAnswer::Refused(why) => refused(rt, why),
-    }
-}
-
-pub fn respond_with(
-    rt: &impl Print,
-    c: Connection,
-    response: &[u8],
-    rtt: u64,
-    mss: u64,
-    headers: u64,
-) -> io::Result<Connection> {
-    responding(rt, response, rtt, mss, headers)?;
-    let responded = accepting::take_response(c, response, rtt, mss, headers);
-    let answer = responded.answer;
-    let left = responded.connection;
-    judged(rt, answer)?;
-    show(rt, left)?;
-    Ok(left)
-}
-
-// A response of eight bytes.
-pub fn respond(
-    rt: &impl Print,
-    c: Connection,
-    response: [u8; 8],
-    rtt: u64,
-    mss: u64,
-    headers: u64,
-) -> io::Result<Connection> {
-    respond_with(rt, c, &response, rtt, mss, headers)
-}
-
-pub fn finished(rt: &impl Print, answer: Answer) -> io::Result<()> {
-    match answer {
-        Answer::Done => say(rt, b": done"),
-        Answer::Refused(why) => refused(rt, why),
-    }
-}
-
-pub fn acknowledged(rt: &impl Print, c: Connection, flight: u64) -> io::Result<Connection> {
-    named(rt, b"acknowledged", flight)?;
-    let ended = ending::first_acknowledgement(c, flight);
-    let answer = ended.answer;
-    let left = ended.connection;
-    finished(rt, answer)?;
-    show(rt, left)?;
-    Ok(left)
-}
-
-pub fn loss(rt: &impl Print, c: Connection) -> io::Result<Connection> {
-    say(rt, b"loss")?;
-    let ended = ending::loss(c);
-    let answer = ended.answer;
-    let left = ended.connection;
-    finished(rt, answer)?;
-    show(rt, left)?;
-    Ok(left)
-}
-
-pub fn give_up(rt: &impl Print, c: Connection) -> io::Result<Connection> {
-    say(rt, b"give up")?;
-    let ended = ending::give_up(c);
-    let answer = ended.answer;
-    let left = ended.connection;
-    finished(rt, answer)?;
-    show(rt, left)?;
-    Ok(left)
-}
-
-fn echoing(rt: &impl Print, acknowledgement: u32, highest: u32, mss: u64) -> io::Result<()> {
-    named(rt, b"echo", acknowledgement as u64)?;
-    named(rt, b" highest", highest as u64)?;
-    named(rt, b" MSS", mss)?;
-    Ok(())
-}
-
-fn reacted(rt: &impl Print, answer: EchoAnswer) -> io::Result<()> {
-    match answer {
-        EchoAnswer::Reacted => say(rt, b": reacted"),
-        EchoAnswer::Ignored => say(rt, b": ignored"),
-        EchoAnswer::Refused(why) => refused(rt, why),
-    }
+pub fn give_up(rt: &impl Print, mut c: Connection) -> io::Result<Connection> {
+    print!(rt; "give up")?;
+    let answer = ending::give_up(&mut c);
+    left_done(rt, answer, c)
 }
 
 pub fn echo(
     rt: &impl Print,
-    c: Connection,
+    mut c: Connection,
     acknowledgement: u32,
     highest: u32,
     mss: u64,
 ) -> io::Result<Connection> {
-    echoing(rt, acknowledgement, highest, mss)?;
-    let echoed = echo::echo(c, acknowledgement, highest, mss);
-    let answer = echoed.answer;
-    let left = echoed.connection;
-    reacted(rt, answer)?;
-    show(rt, left)?;
-    Ok(left)
+    print!(rt; "echo {acknowledgement} highest {highest} MSS {mss}")?;
+    let answer = echo::echo(&mut c, acknowledgement, highest, mss);
+    left_whether(rt, answer, "reacted", "ignored", c)
 }
 
-fn added(rt: &impl Print, answer: Answer) -> io::Result<()> {
-    match answer {
-        Answer::Done => say(rt, b": done"),
-        Answer::Refused(why) => refused(rt, why),
-    }
-}
-
-pub fn sample(rt: &impl Print, c: Connection, time: u64, amount: u64) -> io::Result<Connection> {
-    named(rt, b"sample", amount)?;
-    named(rt, b" at", time)?;
-    let sampled = sampling::sample(c, time, amount);
-    let answer = sampled.answer;
-    let left = sampled.connection;
-    added(rt, answer)?;
-    show(rt, left)?;
-    Ok(left)
-}
-
-fn phasing(rt: &impl Print, rtt: u64, initial_window: u64, time: u64) -> io::Result<()> {
-    named(rt, b"phase T", rtt)?;
-    named(rt, b" IW", initial_window)?;
-    named(rt, b" at", time)?;
-    Ok(())
-}
-
-fn found(rt: &impl Print, answer: PhaseAnswer) -> io::Result<()> {
-    match answer {
-        PhaseAnswer::Validated => say(rt, b": validated"),
-        PhaseAnswer::NonValidated => say(rt, b": non-validated"),
-        PhaseAnswer::Refused(why) => refused(rt, why),
-    }
+pub fn sample(rt: &impl Print, mut c: Connection, time: u64, bytes: u64) -> io::Result<Connection> {
+    print!(rt; "sample {bytes} at {time}")?;
+    let answer = sampling::sample(&mut c, Sample { time, bytes });
+    left_done(rt, answer, c)
 }
 
 pub fn phase_with(
     rt: &impl Print,
-    c: Connection,
+    mut c: Connection,
     rtt: u64,
     initial_window: u64,
     time: u64,
 ) -> io::Result<Connection> {
-    phasing(rt, rtt, initial_window, time)?;
-    let phased = phase::phase(c, rtt, initial_window, time);
-    let answer = phased.answer;
-    let left = phased.connection;
-    found(rt, answer)?;
-    show(rt, left)?;
-    Ok(left)
+    print!(rt; "phase T {rtt} IW {initial_window} at {time}")?;
+    let answer = phase::phase(&mut c, rtt, initial_window, time);
+    left_whether(rt, answer, "validated", "non-validated", c)
 }
 
-// The phase on the relay.
+// ---- calls on the relay
+
+// Asking for 8.
+pub fn ask_at(rt: &impl Print, c: Connection, time: u64) -> io::Result<Connection> {
+    ask(rt, c, Wish { time, ..WISH })
+}
+
+pub fn answer(rt: &impl Print, c: Connection, response: &[u8]) -> io::Result<Connection> {
+    respond(rt, c, response, TRANSPORT)
+}
+
+// Asking, and the response where no router lowered the request: its rate, its nonce, and the TTL Diff, which every router
+// keeps.
+pub fn ask_and_take(rt: &impl Print, c: Connection, wish: Wish) -> io::Result<Connection> {
+    let mut option = NEITHER;
+    let sent = ask_into(rt, c, wish, &mut option)?;
+    option[0] = 27;
+    option[3] = wish.ttl.wrapping_sub(option[3]);
+    let transport = Transport {
+        rtt: wish.rtt,
+        ..TRANSPORT
+    };
+    respond(rt, sent, &option, transport)
+}
+
 pub fn phase(rt: &impl Print, c: Connection, time: u64) -> io::Result<Connection> {
     phase_with(rt, c, RELAY, INITIAL, time)
 }
 
-// The bytes of a response.
-pub fn response(code: u32, ttl_diff: u8, nonce: u32) -> [u8; 8] {
-    [
-        27,
-        8,
-        (code % 16) as u8,
-        ttl_diff,
-        (nonce / 4_194_304 % 256) as u8,
-        (nonce / 16_384 % 256) as u8,
-        (nonce / 64 % 256) as u8,
-        (nonce % 64 * 4) as u8,
-    ]
-}
-
-// The response with another byte at a place.
-pub fn with_byte(response: [u8; 8], at: usize, byte: u8) -> [u8; 8] {
-    let mut r = response;
-    let i = at % 8;
-    r[i] = byte;
-    r
-}
-
-// The response to a request that no router lowered: its rate, its nonce, and the TTL Diff, which every router keeps.
-pub fn response_to(request: [u8; 8], ttl: u8) -> [u8; 8] {
-    let mut r = request;
-    r[0] = 27;
-    r[3] = std::num::wrapping_sub_u8(ttl, request[3]);
-    r
-}
-
-// A response on the relay.
-pub fn answer(rt: &impl Print, c: Connection, response: [u8; 8]) -> io::Result<Connection> {
-    respond(rt, c, response, RELAY, SEGMENT, HEADERS)
-}
-
-// Asking for 8 on the relay.
-pub fn ask_at(rt: &impl Print, c: Connection, time: u64) -> io::Result<Connection> {
-    ask(rt, c, 8, 64, 128, FIELDS, RELAY, time)
+// A sample and the phase at its time.
+pub fn sampled(rt: &impl Print, c: Connection, time: u64, bytes: u64) -> io::Result<Connection> {
+    let held = sample(rt, c, time, bytes)?;
+    phase(rt, held, time)
 }
 
 pub fn idle(rt: &impl Print) -> io::Result<Connection> {
@@ -449,11 +307,5 @@ pub fn asked(rt: &impl Print) -> io::Result<Connection> {
 }
 
 pub fn quick(rt: &impl Print) -> io::Result<Connection> {
-    answer(rt, asked(rt)?, GOOD)
-}
-
-// A small sample and the phase at its time.
-pub fn sampled(rt: &impl Print, c: Connection, time: u64) -> io::Result<Connection> {
-    let small = sample(rt, c, time, 10)?;
-    phase(rt, small, time)
+    answer(rt, asked(rt)?, &GOOD)
 }

@@ -1,16 +1,12 @@
 // Runs a sender's connection: asking, responses, what ends a request, ECN echoes, samples and phases, on document 01's
 // cases, at both sides of every limit, and on records made by hand. A line has the call with its numbers, the answer,
-// the buffer after asking, and the record that was handed back: window, ssthresh and state, then the time of the last
+// the buffer after asking, and the record that the call left: window, ssthresh and state, then the time of the last
 // request, the mark, the period's start and the samples, where it has them, the newest sample first. Of a request the
 // state has the code, the TTL Diff and the nonce, and while quick the window before.
 #![tactic(auto)]
 
-use calls::{
-    FIELDS, HEADERS, NEITHER, RELAY, SEGMENT, acknowledged, answer, ask_into, idle, loss, phase,
-    respond, response_to, sample,
-};
-use printing::say;
-use sender_rules::Connection;
+use calls::{WISH, acknowledged, ask_and_take, idle, loss, phase, sample};
+use sender_rules::{Connection, Wish};
 use std::io;
 
 mod calls;
@@ -20,21 +16,15 @@ mod records;
 mod requests;
 mod responses;
 
-// The round trip of the short path.
-const SHORT: u64 = 30_000;
-
-// Asking for 8 on the relay, and the answer.
-fn relayed(rt: &impl Print, c: Connection, time: u64, nonce: u32) -> io::Result<Connection> {
-    let mut request = NEITHER;
-    let sent = ask_into(rt, c, 8, 64, 128, nonce, RELAY, time, &mut request)?;
-    answer(rt, sent, response_to(request, 64))
-}
-
-// A connection whose window was worked out on the short path.
+// A connection whose window was worked out on a path with a short round trip.
 fn short_path(rt: &impl Print) -> io::Result<Connection> {
-    let mut request = NEITHER;
-    let sent = ask_into(rt, idle(rt)?, 8, 64, 128, 5, SHORT, 1_000_000, &mut request)?;
-    let taken = respond(rt, sent, response_to(request, 64), SHORT, SEGMENT, HEADERS)?;
+    let wish = Wish {
+        nonce: 5,
+        rtt: 30_000,
+        time: 1_000_000,
+        ..WISH
+    };
+    let taken = ask_and_take(rt, idle(rt)?, wish)?;
     acknowledged(rt, taken, 40_000)
 }
 
@@ -50,18 +40,24 @@ fn unused(rt: &impl Print, came: Connection) -> io::Result<Connection> {
 }
 
 fn moved_to_the_relay(rt: &impl Print) -> io::Result<()> {
-    say(rt, b"moved to the relay:\n")?;
+    println!(rt; "moved to the relay:")?;
     let lowered = unused(rt, short_path(rt)?)?;
-    let c = relayed(rt, lowered, 303_100_000, FIELDS)?;
-    acknowledged(rt, c, 10_000)?;
-    acknowledged(rt, c, 700_000)?;
-    acknowledged(rt, c, 800_000)?;
+    let time = 303_100_000;
+    let c = ask_and_take(rt, lowered, Wish { time, ..WISH })?;
+    for flight in [10_000, 700_000, 800_000] {
+        acknowledged(rt, c, flight)?;
+    }
     Ok(())
 }
 
 fn second_connection(rt: &impl Print) -> io::Result<()> {
-    say(rt, b"a second connection:\n")?;
-    let c = relayed(rt, idle(rt)?, 1_000_000, 77)?;
+    println!(rt; "a second connection:")?;
+    let wish = Wish {
+        nonce: 77,
+        time: 1_000_000,
+        ..WISH
+    };
+    let c = ask_and_take(rt, idle(rt)?, wish)?;
     let lost = loss(rt, c)?;
     loss(rt, lost)?;
     Ok(())
@@ -74,6 +70,5 @@ fn main(rt: HostRuntime) -> io::Result<()> {
     responses::run(&rt)?;
     echoes::run(&rt)?;
     phases::run(&rt)?;
-    records::run(&rt)?;
-    Ok(())
+    records::run(&rt)
 }

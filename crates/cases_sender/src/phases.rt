@@ -3,7 +3,6 @@ use crate::calls::{
     END, GOOD, INITIAL, MOST, RELAY, answer, asked, fresh, idle, loss, phase, phase_with, sample,
     sampled,
 };
-use printing::say;
 use sender_rules::Connection;
 use std::io;
 
@@ -18,60 +17,50 @@ fn adjust(rt: &impl Print, window: u64, ssthresh: u64, initial_window: u64) -> i
 }
 
 fn adjustments(rt: &impl Print) -> io::Result<()> {
-    say(rt, b"periods that are over:\n")?;
-    adjust(rt, 40_000, 20_000, INITIAL)?;
-    adjust(rt, 4_000, 20_000, INITIAL)?;
-    adjust(rt, 40_003, 20_000, INITIAL)?;
-    adjust(rt, 40_000, 30_001, INITIAL)?;
-    adjust(rt, 8_761, 0, INITIAL)?;
-    adjust(rt, 8_759, 0, INITIAL)?;
-    adjust(rt, 4_381, 0, INITIAL)?;
-    adjust(rt, 4_380, 0, INITIAL)?;
-    adjust(rt, 1, 0, 1)?;
-    adjust(rt, 3, 0, 65_535)?;
-    adjust(rt, MOST, MOST, 65_535)?;
-    adjust(rt, MOST, 0, 1)?;
+    println!(rt; "periods that are over:")?;
+    for (window, ssthresh, initial_window) in [
+        (40_000, 20_000, INITIAL),
+        (4_000, 20_000, INITIAL),
+        (40_003, 20_000, INITIAL),
+        (40_000, 30_001, INITIAL),
+        (8_761, 0, INITIAL),
+        (8_759, 0, INITIAL),
+        (4_381, 0, INITIAL),
+        (4_380, 0, INITIAL),
+        (1, 0, 1),
+        (3, 0, 65_535),
+        (MOST, MOST, 65_535),
+        (MOST, 0, 1),
+    ] {
+        adjust(rt, window, ssthresh, initial_window)?;
+    }
     Ok(())
 }
 
 // Five samples, 100 microseconds apart.
-fn five(
-    rt: &impl Print,
-    first: u64,
-    second: u64,
-    third: u64,
-    fourth: u64,
-    fifth: u64,
-) -> io::Result<Connection> {
-    let mut c = sample(rt, fresh(rt, 40_000, 0)?, 100, first)?;
-    c = sample(rt, c, 200, second)?;
-    c = sample(rt, c, 300, third)?;
-    c = sample(rt, c, 400, fourth)?;
-    sample(rt, c, 500, fifth)
+fn five(rt: &impl Print, row: [u64; 5]) -> io::Result<Connection> {
+    let mut c = fresh(rt, 40_000, 0)?;
+    for (time, bytes) in [100, 200, 300, 400, 500].into_iter().zip(row) {
+        c = sample(rt, c, time, bytes)?;
+    }
+    Ok(c)
 }
 
 fn sixth_sample(rt: &impl Print) -> io::Result<()> {
-    say(rt, b"six samples:\n")?;
-    let c = five(rt, 20_000, 1_000, 2_000, 3_000, 4_000)?;
+    println!(rt; "six samples:")?;
+    let c = five(rt, [20_000, 1_000, 2_000, 3_000, 4_000])?;
     phase(rt, c, 500)?;
-    let six = sample(rt, c, 600, 5_000)?;
-    phase(rt, six, 600)?;
+    sampled(rt, c, 600, 5_000)?;
     Ok(())
 }
 
 // Samples of one time: the earliest added gives way.
-fn six_at_once(rt: &impl Print) -> io::Result<Connection> {
-    let mut c = sample(rt, fresh(rt, 40_000, 0)?, 100, 1_000)?;
-    c = sample(rt, c, 100, 30_000)?;
-    c = sample(rt, c, 100, 2_000)?;
-    c = sample(rt, c, 100, 3_000)?;
-    c = sample(rt, c, 100, 4_000)?;
-    sample(rt, c, 100, 5_000)
-}
-
 fn seventh_sample(rt: &impl Print) -> io::Result<()> {
-    say(rt, b"seven samples:\n")?;
-    let c = six_at_once(rt)?;
+    println!(rt; "seven samples:")?;
+    let mut c = fresh(rt, 40_000, 0)?;
+    for bytes in [1_000, 30_000, 2_000, 3_000, 4_000, 5_000] {
+        c = sample(rt, c, 100, bytes)?;
+    }
     phase(rt, c, 100)?;
     let seven = sample(rt, c, 100, 6_000)?;
     phase(rt, seven, 100)?;
@@ -79,32 +68,24 @@ fn seventh_sample(rt: &impl Print) -> io::Result<()> {
     Ok(())
 }
 
-fn greatest_place(
-    rt: &impl Print,
-    first: u64,
-    second: u64,
-    third: u64,
-    fourth: u64,
-    fifth: u64,
-) -> io::Result<()> {
-    let c = five(rt, first, second, third, fourth, fifth)?;
-    phase(rt, c, 500)?;
-    Ok(())
-}
-
 fn greatest_places(rt: &impl Print) -> io::Result<()> {
-    say(rt, b"the greatest sample in each place:\n")?;
-    greatest_place(rt, 20_000, 0, 0, 0, 0)?;
-    greatest_place(rt, 19_999, 20_000, 19_999, 19_999, 19_999)?;
-    greatest_place(rt, 0, 0, 20_000, 0, 0)?;
-    greatest_place(rt, 1, 2, 3, 20_000, 4)?;
-    greatest_place(rt, 1, 2, 3, 4, 20_000)?;
-    greatest_place(rt, 19_999, 19_999, 19_999, 19_999, 19_999)?;
+    println!(rt; "the greatest sample in each place:")?;
+    for row in [
+        [20_000, 0, 0, 0, 0],
+        [19_999, 20_000, 19_999, 19_999, 19_999],
+        [0, 0, 20_000, 0, 0],
+        [1, 2, 3, 20_000, 4],
+        [1, 2, 3, 4, 20_000],
+        [19_999, 19_999, 19_999, 19_999, 19_999],
+    ] {
+        let c = five(rt, row)?;
+        phase(rt, c, 500)?;
+    }
     Ok(())
 }
 
 fn sample_times(rt: &impl Print) -> io::Result<()> {
-    say(rt, b"times of samples:\n")?;
+    println!(rt; "times of samples:")?;
     let mut c = sample(rt, idle(rt)?, 5_000, 100)?;
     sample(rt, c, 4_999, 100)?;
     sample(rt, c, 0, 100)?;
@@ -120,85 +101,86 @@ fn sample_times(rt: &impl Print) -> io::Result<()> {
 }
 
 fn samples_out_of_range(rt: &impl Print) -> io::Result<()> {
-    say(rt, b"samples and phases out of range:\n")?;
+    println!(rt; "samples and phases out of range:")?;
     let c = sample(rt, idle(rt)?, 5_000, MOST)?;
-    sample(rt, c, 5_000, MOST + 1)?;
-    sample(rt, c, 4_999, MOST + 1)?;
-    sample(rt, c, 5_000, u64::MAX)?;
-    phase_with(rt, c, 0, INITIAL, 5_000)?;
-    phase_with(rt, c, 60_000_001, INITIAL, 5_000)?;
-    phase_with(rt, c, u64::MAX, INITIAL, 5_000)?;
-    phase_with(rt, c, RELAY, 0, 5_000)?;
-    phase_with(rt, c, RELAY, 65_536, 5_000)?;
-    phase_with(rt, c, RELAY, u64::MAX, 5_000)?;
-    phase_with(rt, c, RELAY, 65_536, 4_999)?;
+    for (time, bytes) in [(5_000, MOST + 1), (4_999, MOST + 1), (5_000, u64::MAX)] {
+        sample(rt, c, time, bytes)?;
+    }
+    for (rtt, initial_window, time) in [
+        (0, INITIAL, 5_000),
+        (60_000_001, INITIAL, 5_000),
+        (u64::MAX, INITIAL, 5_000),
+        (RELAY, 0, 5_000),
+        (RELAY, 65_536, 5_000),
+        (RELAY, u64::MAX, 5_000),
+        (RELAY, 65_536, 4_999),
+    ] {
+        phase_with(rt, c, rtt, initial_window, time)?;
+    }
     Ok(())
 }
 
 fn phases_at_the_limits(rt: &impl Print) -> io::Result<()> {
-    say(rt, b"phases with numbers at their limits:\n")?;
+    println!(rt; "phases with numbers at their limits:")?;
     let c = sample(rt, idle(rt)?, 5_000, 0)?;
     phase_with(rt, c, 1, 1, 5_000)?;
     phase_with(rt, c, 60_000_000, 65_535, 5_000)?;
-    let half = sample(rt, fresh(rt, MOST, MOST)?, 5_000, MOST / 2)?;
-    phase(rt, half, 5_000)?;
-    let less = sample(rt, fresh(rt, MOST, MOST)?, 5_000, MOST / 2 - 1)?;
-    phase(rt, less, 5_000)?;
-    let much = sample(rt, fresh(rt, 1, 0)?, 5_000, MOST)?;
-    phase(rt, much, 5_000)?;
-    let none = sample(rt, fresh(rt, 1, 0)?, 5_000, 0)?;
-    phase(rt, none, 5_000)?;
+    for (window, ssthresh, bytes) in [
+        (MOST, MOST, MOST / 2),
+        (MOST, MOST, MOST / 2 - 1),
+        (1, 0, MOST),
+        (1, 0, 0),
+    ] {
+        sampled(rt, fresh(rt, window, ssthresh)?, 5_000, bytes)?;
+    }
     Ok(())
 }
 
 // A small sample of time 1,000 at a phase call: where it is too old, pipeACK is undefined.
-fn seen_at(rt: &impl Print, rtt: u64, time: u64) -> io::Result<()> {
-    let c = sample(rt, fresh(rt, 40_000, 0)?, 1_000, 10)?;
-    phase_with(rt, c, rtt, INITIAL, time)?;
-    Ok(())
-}
-
 fn ages(rt: &impl Print) -> io::Result<()> {
-    say(rt, b"ages of a sample:\n")?;
-    seen_at(rt, 1, 1_001_000)?;
-    seen_at(rt, 1, 1_001_001)?;
-    seen_at(rt, 333_333, 1_001_000)?;
-    seen_at(rt, 333_333, 1_001_001)?;
-    seen_at(rt, 333_334, 1_001_002)?;
-    seen_at(rt, 333_334, 1_001_003)?;
-    seen_at(rt, 400_000, 1_201_000)?;
-    seen_at(rt, 400_000, 1_201_001)?;
-    seen_at(rt, 60_000_000, 180_001_000)?;
-    seen_at(rt, 60_000_000, 180_001_001)?;
-    seen_at(rt, 60_000_000, 300_000_999)?;
+    println!(rt; "ages of a sample:")?;
+    for (rtt, time) in [
+        (1, 1_001_000),
+        (1, 1_001_001),
+        (333_333, 1_001_000),
+        (333_333, 1_001_001),
+        (333_334, 1_001_002),
+        (333_334, 1_001_003),
+        (400_000, 1_201_000),
+        (400_000, 1_201_001),
+        (60_000_000, 180_001_000),
+        (60_000_000, 180_001_001),
+        (60_000_000, 300_000_999),
+    ] {
+        let c = sample(rt, fresh(rt, 40_000, 0)?, 1_000, 10)?;
+        phase_with(rt, c, rtt, INITIAL, time)?;
+    }
     Ok(())
 }
 
 fn old_and_recent(rt: &impl Print) -> io::Result<()> {
-    say(rt, b"an old sample beside a recent one:\n")?;
+    println!(rt; "an old sample beside a recent one:")?;
     let mut c = sample(rt, fresh(rt, 40_000, 0)?, 1_000, 20_000)?;
     c = sample(rt, c, 900_000, 10)?;
     phase_with(rt, c, 1, INITIAL, 1_001_000)?;
     c = phase_with(rt, c, 1, INITIAL, 1_001_001)?;
-    phase_with(rt, c, 333_334, INITIAL, 1_001_002)?;
-    phase_with(rt, c, 1, INITIAL, 1_900_000)?;
-    phase_with(rt, c, 1, INITIAL, 1_900_001)?;
-    Ok(())
-}
-
-fn half_of(rt: &impl Print, window: u64, amount: u64) -> io::Result<()> {
-    let c = sample(rt, fresh(rt, window, 0)?, 1_000, amount)?;
-    phase(rt, c, 1_000)?;
+    for (rtt, time) in [(333_334, 1_001_002), (1, 1_900_000), (1, 1_900_001)] {
+        phase_with(rt, c, rtt, INITIAL, time)?;
+    }
     Ok(())
 }
 
 fn halves(rt: &impl Print) -> io::Result<()> {
-    say(rt, b"half of the window:\n")?;
-    half_of(rt, 40_000, 20_001)?;
-    half_of(rt, 40_000, 20_000)?;
-    half_of(rt, 40_000, 19_999)?;
-    half_of(rt, 40_001, 20_001)?;
-    half_of(rt, 40_001, 20_000)?;
+    println!(rt; "half of the window:")?;
+    for (window, bytes) in [
+        (40_000, 20_001),
+        (40_000, 20_000),
+        (40_000, 19_999),
+        (40_001, 20_001),
+        (40_001, 20_000),
+    ] {
+        sampled(rt, fresh(rt, window, 0)?, 1_000, bytes)?;
+    }
     phase(rt, fresh(rt, 40_000, 0)?, 0)?;
     Ok(())
 }
@@ -215,21 +197,21 @@ fn validated(rt: &impl Print) -> io::Result<Connection> {
 }
 
 fn started_anew(rt: &impl Print) -> io::Result<()> {
-    say(rt, b"a period that a validated phase ends:\n")?;
+    println!(rt; "a period that a validated phase ends:")?;
     let mut c = validated(rt)?;
-    c = sampled(rt, c, 200_000_000)?;
-    c = sampled(rt, c, 300_002_001)?;
-    c = sampled(rt, c, 500_000_000)?;
+    for time in [200_000_000, 300_002_001, 500_000_000] {
+        c = sampled(rt, c, time, 10)?;
+    }
     phase(rt, c, 500_000_001)?;
     Ok(())
 }
 
 fn undefined_ends(rt: &impl Print) -> io::Result<()> {
-    say(rt, b"a period that an undefined pipeACK ends:\n")?;
+    println!(rt; "a period that an undefined pipeACK ends:")?;
     let mut c = sample(rt, fresh(rt, 40_000, 0)?, 1_000, 10)?;
     c = phase(rt, c, 2_000)?;
     c = phase(rt, c, 400_000_000)?;
-    c = sampled(rt, c, 400_000_000)?;
+    c = sampled(rt, c, 400_000_000, 10)?;
     c = sample(rt, c, 700_000_000, 10)?;
     phase(rt, c, 700_000_000)?;
     phase(rt, c, 700_000_001)?;
@@ -237,43 +219,45 @@ fn undefined_ends(rt: &impl Print) -> io::Result<()> {
 }
 
 fn again_and_again(rt: &impl Print) -> io::Result<Connection> {
-    let mut c = sampled(rt, fresh(rt, 40_000, 0)?, 0)?;
-    c = sampled(rt, c, 400_000_000)?;
-    c = phase(rt, c, 400_000_001)?;
-    c = sampled(rt, c, 700_000_000)?;
-    phase(rt, c, 700_000_001)
+    let mut c = sampled(rt, fresh(rt, 40_000, 0)?, 0, 10)?;
+    for time in [400_000_000, 700_000_000] {
+        c = sampled(rt, c, time, 10)?;
+        c = phase(rt, c, time + 1)?;
+    }
+    Ok(c)
 }
 
 // The window falls to the initial window, and then stays.
 fn down_to_the_floor(rt: &impl Print) -> io::Result<()> {
-    say(rt, b"one adjustment after another:\n")?;
+    println!(rt; "one adjustment after another:")?;
     let mut c = again_and_again(rt)?;
-    c = sample(rt, c, 1_100_000_000, 2_499)?;
-    c = phase(rt, c, 1_100_000_000)?;
-    c = sample(rt, c, 1_500_000_000, 2_189)?;
-    c = phase(rt, c, 1_500_000_000)?;
-    c = sample(rt, c, 1_500_000_000, 2_190)?;
-    phase(rt, c, 1_500_000_000)?;
+    for (time, bytes) in [
+        (1_100_000_000, 2_499),
+        (1_500_000_000, 2_189),
+        (1_500_000_000, 2_190),
+    ] {
+        c = sampled(rt, c, time, bytes)?;
+    }
     Ok(())
 }
 
 // The last two calls are the same: the first finds the window before the adjustment.
 fn window_as_found(rt: &impl Print) -> io::Result<()> {
-    say(rt, b"the window as the call finds it:\n")?;
-    let mut c = sample(rt, fresh(rt, 40_000, 0)?, 1_000, 15_000)?;
-    c = phase(rt, c, 1_000)?;
-    c = sample(rt, c, 300_001_001, 15_000)?;
-    c = phase(rt, c, 300_001_001)?;
+    println!(rt; "the window as the call finds it:")?;
+    let mut c = fresh(rt, 40_000, 0)?;
+    for time in [1_000, 300_001_001] {
+        c = sampled(rt, c, time, 15_000)?;
+    }
     phase(rt, c, 300_001_001)?;
     Ok(())
 }
 
 fn samples_in_states(rt: &impl Print) -> io::Result<()> {
-    say(rt, b"samples and phases while asked and while quick:\n")?;
-    let mut c = sampled(rt, asked(rt)?, 1_000)?;
-    c = sampled(rt, c, 300_001_001)?;
-    c = answer(rt, c, GOOD)?;
-    c = sampled(rt, c, 600_002_002)?;
+    println!(rt; "samples and phases while asked and while quick:")?;
+    let mut c = sampled(rt, asked(rt)?, 1_000, 10)?;
+    c = sampled(rt, c, 300_001_001, 10)?;
+    c = answer(rt, c, &GOOD)?;
+    c = sampled(rt, c, 600_002_002, 10)?;
     loss(rt, c)?;
     Ok(())
 }
@@ -293,6 +277,5 @@ pub fn run(rt: &impl Print) -> io::Result<()> {
     undefined_ends(rt)?;
     down_to_the_floor(rt)?;
     window_as_found(rt)?;
-    samples_in_states(rt)?;
-    Ok(())
+    samples_in_states(rt)
 }

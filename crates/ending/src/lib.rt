@@ -1,118 +1,75 @@
-// What ends the sender's request, and the quick state: the first acknowledgement, a loss, giving up. Each call takes the
-// connection's record by value and hands it back beside its answer; a refused call hands it back unchanged.
+// What ends the sender's request, and the quick state: the first acknowledgement, a loss, giving up. A refused call leaves
+// the connection's record as it was.
 #![tactic(auto)]
 
 ghost use Rattle.std.specs.Prelude.{◌≡◌};
-ghost use Rattle.refusals.specs.Replies.{answer_told};
+ghost use Rattle.common.specs.Choice.{pick};
+ghost use Rattle.refusals.specs.Reply.{answer, refuse};
+ghost use Rattle.refusals.specs.Replies.{told};
+ghost use Rattle.sender_rules.specs.Connections.Records.{in_range};
 ghost use Rattle.sender_rules.specs.Sender.Calls.{back_to, sender_calls};
 
-use connection::{MOST_BYTES, greater, is_in_range, lesser, with_state};
-use refusals::{Answer, Refusal};
+use connection::{MOST_BYTES, is_in_range};
+use refusals::Refusal;
 use sender_rules::{Connection, State};
 
-// What a first acknowledgement, a loss and giving up answer, and the record afterwards.
-#[derive(Clone, Copy)]
-pub struct Ended {
-    pub answer: Answer,
-    pub connection: Connection,
+// The state of a record that is in range.
+fn state_of(connection: Connection) -> Result<State, Refusal>
+    ensures { told result ≡ pick (in_range connection) (answer connection.state) (refuse 7) }
+{
+    if !is_in_range(connection) {
+        return Err(Refusal::OutOfRange);
+    }
+    Ok(connection.state)
 }
 
 // The record idle again, with a window that is not above the one it had.
 fn back(connection: Connection, window: u64) -> Connection
     ensures { result ≡ back_to connection window }
 {
-    let mut idle = with_state(connection, State::Idle);
-    idle.window = lesser(connection.window, window);
-    idle
+    Connection {
+        state: State::Idle,
+        window: connection.window.min(window),
+        ..connection
+    }
 }
 
 // The first acknowledgement while quick, with the bytes in flight: the window is the lesser of itself and the greater
 // of flight and the window before.
-pub fn first_acknowledgement(connection: Connection, flight: u64) -> Ended
-    ensures answer { answer_told result.answer ≡ (sender_calls.acknowledged connection flight).said }
-    ensures record { result.connection ≡ (sender_calls.acknowledged connection flight).left }
+pub fn first_acknowledgement(connection: &mut Connection, flight: u64) -> Result<(), Refusal>
+    ensures answer { told result ≡ (sender_calls.acknowledged connection.old flight).said }
+    ensures record { connection.new ≡ (sender_calls.acknowledged connection.old flight).left }
 {
-    if !is_in_range(connection) {
-        return Ended {
-            answer: Answer::Refused(Refusal::OutOfRange),
-            connection,
-        };
-    }
     if flight > MOST_BYTES {
-        return Ended {
-            answer: Answer::Refused(Refusal::OutOfRange),
-            connection,
-        };
+        return Err(Refusal::OutOfRange);
     }
-    let state = connection.state;
-    match state {
-        State::Idle => Ended {
-            answer: Answer::Refused(Refusal::WrongState),
-            connection,
-        },
-        State::Asked(_) => Ended {
-            answer: Answer::Refused(Refusal::WrongState),
-            connection,
-        },
-        State::Quick(before) => Ended {
-            answer: Answer::Done,
-            connection: back(connection, greater(flight, before.window)),
-        },
-    }
+    let State::Quick(before) = state_of(*connection)? else {
+        return Err(Refusal::WrongState);
+    };
+    *connection = back(*connection, flight.max(before.window));
+    Ok(())
 }
 
 // A loss while quick: the window is the lesser of itself and the window before.
-pub fn loss(connection: Connection) -> Ended
-    ensures answer { answer_told result.answer ≡ (sender_calls.lost connection).said }
-    ensures record { result.connection ≡ (sender_calls.lost connection).left }
+pub fn loss(connection: &mut Connection) -> Result<(), Refusal>
+    ensures answer { told result ≡ (sender_calls.lost connection.old).said }
+    ensures record { connection.new ≡ (sender_calls.lost connection.old).left }
 {
-    if !is_in_range(connection) {
-        return Ended {
-            answer: Answer::Refused(Refusal::OutOfRange),
-            connection,
-        };
-    }
-    let state = connection.state;
-    match state {
-        State::Idle => Ended {
-            answer: Answer::Refused(Refusal::WrongState),
-            connection,
-        },
-        State::Asked(_) => Ended {
-            answer: Answer::Refused(Refusal::WrongState),
-            connection,
-        },
-        State::Quick(before) => Ended {
-            answer: Answer::Done,
-            connection: back(connection, before.window),
-        },
-    }
+    let State::Quick(before) = state_of(*connection)? else {
+        return Err(Refusal::WrongState);
+    };
+    *connection = back(*connection, before.window);
+    Ok(())
 }
 
 // Giving up the open request.
-pub fn give_up(connection: Connection) -> Ended
-    ensures answer { answer_told result.answer ≡ (sender_calls.gave_up connection).said }
-    ensures record { result.connection ≡ (sender_calls.gave_up connection).left }
+pub fn give_up(connection: &mut Connection) -> Result<(), Refusal>
+    ensures answer { told result ≡ (sender_calls.gave_up connection.old).said }
+    ensures record { connection.new ≡ (sender_calls.gave_up connection.old).left }
 {
-    if !is_in_range(connection) {
-        return Ended {
-            answer: Answer::Refused(Refusal::OutOfRange),
-            connection,
-        };
-    }
-    let state = connection.state;
-    match state {
-        State::Idle => Ended {
-            answer: Answer::Refused(Refusal::WrongState),
-            connection,
-        },
-        State::Quick(_) => Ended {
-            answer: Answer::Refused(Refusal::WrongState),
-            connection,
-        },
-        State::Asked(_) => Ended {
-            answer: Answer::Done,
-            connection: with_state(connection, State::Idle),
-        },
-    }
+    let State::Asked(_) = state_of(*connection)? else {
+        return Err(Refusal::WrongState);
+    };
+    connection.state = State::Idle;
+    Ok(())
 }

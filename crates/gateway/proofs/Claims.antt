@@ -2,7 +2,7 @@
 use Prim.Native.Nat.{ℕ, zero, suc, ◌≤◌}
 use mathlib.Core.Bool.{true, ◌&&◌}
 use mathlib.Core.List.{List, [], ◌∷◌}
-use mathlib.Core.Option.{Option, none, some}
+use Rattle.std.specs.Prelude.{Option, None, Some, Result, Ok, Err}
 use mathlib.Core.Path.{◌≡◌, refl, sym, ap, subst, ◌∙◌}
 use native.Mathlib.Omega.{arith}
 use lib.Dec.{leb}
@@ -11,31 +11,27 @@ use Rattle.common.specs.Choice.{within}
 use Rattle.refusals.specs.declared.Refusal.{Refusal}
 use Rattle.refusals.specs.Numbers.{number_of}
 use Rattle.refusals.specs.Reply.{Reply, answer, refuse, done, leaves}
+use Rattle.refusals.specs.Replies.{told}
 use Rattle.refusals.proofs.ReplyLaws.{RefusedBy, chosen_by, then_by}
 use Rattle.refusals.proofs.Claims.{table}
 use Rattle.wire_rules.specs.Rates.Steps.{top_code}
 use Rattle.wire_rules.specs.declared.Request.{Request}
-use Rattle.ipv4.specs.declared.ecn.Marking.{Marking}
-use Rattle.ipv4.specs.declared.ecn.Marking.TheVariants as Markings
 use Rattle.wire_rules.specs.Ipv4.Checks.{header_checked}
-use Rattle.wire_rules.specs.Ipv4.Marks.{Mark, marked, dropped, mark_reply}
-use Rattle.ipv4.specs.Replies.{mark_told}
+use Rattle.wire_rules.specs.Ipv4.Marks.{mark_reply}
+use Rattle.wire_rules.specs.declared.Marking.{Marking}
+use Rattle.wire_rules.specs.declared.Marking.TheVariants.{Marked, Dropped}
 use Rattle.wire_rules.specs.Ipv4.Views.{view}
 use Rattle.wire_rules.specs.Ipv4.Claims.{SameHeader, LeftAlike, Alike}
 use Rattle.wire_rules.proofs.Ipv4.Claims as packets
 use Rattle.wire_rules.proofs.Ipv4.RefusalLaws.{checked_by, forwarded_by, view_by}
 use Rattle.gateway_rules.specs.Ledgers.Calls.{Link, link_in_range, move_reply, ask_reply}
 use Rattle.gateway_rules.specs.Ledgers.Rows.{total}
-use Rattle.router.specs.declared.Routed.{Routed}
-use Rattle.router.specs.declared.Routed.TheVariants as Routings
 use Rattle.gateway_rules.specs.Router.Routers.{router_in_range, routed, silently_routed, ceiling_from, wish_of, Passage, routed_by_ledger}
-use Rattle.router.specs.Replies.{routed_told}
-use Rattle.receiver.specs.declared.Received.{Received}
-use Rattle.receiver.specs.declared.Received.TheVariants as Receivings
+use Rattle.gateway_rules.specs.declared.Reaction.{Reaction}
+use Rattle.gateway_rules.specs.declared.Reaction.TheVariants.{Answered, Unanswered}
 use Rattle.gateway_rules.specs.Receiver.Reports.{Report, unanswered, reported, receiver_in_range, report_reply, received, response_after, reaction_in}
 use Rattle.gateway_rules.proofs.Router.Claims as routers
 use Rattle.gateway_rules.proofs.Receiver.Claims as receivers
-use Rattle.receiver.specs.Replies.{received_told}
 use Rattle.gateway.specs.Results.{router_result, receiver_result, mark_result, lent_by_c}
 use Rattle.gateway.specs.Claims.{Numbered, Lending, Apart, among, Possible, HeaderOnly}
 
@@ -70,33 +66,33 @@ not_done why e = let low = table.low why in omega arith
 not_above : (why : Refusal) (n : ℕ) → 16 ≤ n → number_of why ≡ n → ⊥
 not_above why n h e = let high = table.high why in omega arith
 
-routers_apart : (a b : Routed) → router_result (routed_told a) ≡ router_result (routed_told b) → a ≡ b
-routers_apart Routings.Done Routings.Done e = refl
-routers_apart Routings.Done (Routings.Refused why) e = absurd (not_done why (sym e))
-routers_apart (Routings.Refused why) Routings.Done e = absurd (not_done why e)
-routers_apart (Routings.Refused why) (Routings.Refused other) e = ap Routings.Refused (table.alone why other e)
+routers_apart : (a b : Result (Unit {0}) Refusal) → router_result (told a) ≡ router_result (told b) → a ≡ b
+routers_apart (Ok _) (Ok _) e = refl
+routers_apart (Ok _) (Err why) e = absurd (not_done why (sym e))
+routers_apart (Err why) (Ok _) e = absurd (not_done why e)
+routers_apart (Err why) (Err other) e = ap Err (table.alone why other e)
 
-receivers_apart : (a b : Received) → receiver_result (received_told a) ≡ receiver_result (received_told b) → a ≡ b
-receivers_apart Receivings.Answered Receivings.Answered e = refl
-receivers_apart Receivings.Answered Receivings.Unanswered e = absurd (omega arith)
-receivers_apart Receivings.Answered (Receivings.Refused why) e = absurd (not_done why (sym e))
-receivers_apart Receivings.Unanswered Receivings.Answered e = absurd (omega arith)
-receivers_apart Receivings.Unanswered Receivings.Unanswered e = refl
-receivers_apart Receivings.Unanswered (Receivings.Refused why) e = absurd (not_above why 40 (omega arith) (sym e))
-receivers_apart (Receivings.Refused why) Receivings.Answered e = absurd (not_done why e)
-receivers_apart (Receivings.Refused why) Receivings.Unanswered e = absurd (not_above why 40 (omega arith) e)
-receivers_apart (Receivings.Refused why) (Receivings.Refused other) e = ap Receivings.Refused (table.alone why other e)
+receivers_apart : (a b : Result Reaction Refusal) → receiver_result (told a) ≡ receiver_result (told b) → a ≡ b
+receivers_apart (Ok Answered) (Ok Answered) e = refl
+receivers_apart (Ok Answered) (Ok Unanswered) e = absurd (omega arith)
+receivers_apart (Ok Answered) (Err why) e = absurd (not_done why (sym e))
+receivers_apart (Ok Unanswered) (Ok Answered) e = absurd (omega arith)
+receivers_apart (Ok Unanswered) (Ok Unanswered) e = refl
+receivers_apart (Ok Unanswered) (Err why) e = absurd (not_above why 40 (omega arith) (sym e))
+receivers_apart (Err why) (Ok Answered) e = absurd (not_done why e)
+receivers_apart (Err why) (Ok Unanswered) e = absurd (not_above why 40 (omega arith) e)
+receivers_apart (Err why) (Err other) e = ap Err (table.alone why other e)
 
-marks_apart : (a b : Marking) → mark_result (mark_told a) ≡ mark_result (mark_told b) → a ≡ b
-marks_apart Markings.Marked Markings.Marked e = refl
-marks_apart Markings.Marked Markings.Drop e = absurd (omega arith)
-marks_apart Markings.Marked (Markings.Refused why) e = absurd (not_done why (sym e))
-marks_apart Markings.Drop Markings.Marked e = absurd (omega arith)
-marks_apart Markings.Drop Markings.Drop e = refl
-marks_apart Markings.Drop (Markings.Refused why) e = absurd (not_above why 41 (omega arith) (sym e))
-marks_apart (Markings.Refused why) Markings.Marked e = absurd (not_done why e)
-marks_apart (Markings.Refused why) Markings.Drop e = absurd (not_above why 41 (omega arith) e)
-marks_apart (Markings.Refused why) (Markings.Refused other) e = ap Markings.Refused (table.alone why other e)
+marks_apart : (a b : Result Marking Refusal) → mark_result (told a) ≡ mark_result (told b) → a ≡ b
+marks_apart (Ok Marked) (Ok Marked) e = refl
+marks_apart (Ok Marked) (Ok Dropped) e = absurd (omega arith)
+marks_apart (Ok Marked) (Err why) e = absurd (not_done why (sym e))
+marks_apart (Ok Dropped) (Ok Marked) e = absurd (omega arith)
+marks_apart (Ok Dropped) (Ok Dropped) e = refl
+marks_apart (Ok Dropped) (Err why) e = absurd (not_above why 41 (omega arith) (sym e))
+marks_apart (Err why) (Ok Marked) e = absurd (not_done why e)
+marks_apart (Err why) (Ok Dropped) e = absurd (not_above why 41 (omega arith) e)
+marks_apart (Err why) (Err other) e = ap Err (table.alone why other e)
 
 pub apart : Apart
 apart = record { routers = routers_apart; receivers = receivers_apart; marks = marks_apart }
@@ -137,8 +133,8 @@ module _ (numbers : List ℕ) where
           seven
 
     reported_within : among numbers 4 ≡ true → (ceiling ttl : ℕ) (x : Option Request) → RefusedBy Is (report_reply ceiling ttl x)
-    reported_within four ceiling ttl none = four
-    reported_within four ceiling ttl (some r) = tt
+    reported_within four ceiling ttl None = four
+    reported_within four ceiling ttl (Some r) = tt
 
     received_within : among numbers 4 ≡ true → among numbers 7 ≡ true → (reach ceiling room : ℕ) (packet : List ℕ) → RefusedBy Is (received reach ceiling room packet)
     received_within four seven reach ceiling room packet =
@@ -154,9 +150,9 @@ module _ (numbers : List ℕ) where
   receiver_among zeroth forty (answer (reported r)) w = zeroth
   receiver_among zeroth forty (refuse n) w = w
 
-  mark_among : among numbers 0 ≡ true → among numbers 41 ≡ true → (r : Reply Mark) → RefusedBy Is r → among numbers (mark_result r) ≡ true
-  mark_among zeroth more (answer marked) w = zeroth
-  mark_among zeroth more (answer dropped) w = more
+  mark_among : among numbers 0 ≡ true → among numbers 41 ≡ true → (r : Reply Marking) → RefusedBy Is r → among numbers (mark_result r) ≡ true
+  mark_among zeroth more (answer Marked) w = zeroth
+  mark_among zeroth more (answer Dropped) w = more
   mark_among zeroth more (refuse n) w = w
 
 pub possible : Possible

@@ -1,18 +1,17 @@
 -- What is claimed of the exported functions' results: each answer has a number of its own, which numbers a function can give, and that
 -- nothing depends on a byte behind the header. Assumes nothing.
-use Rattle.std.specs.Prelude.{ℕ, Bool, true, false, ◌||◌, List, [], ◌∷◌, ◌≡◌, eqb, length}
+use Rattle.std.specs.Prelude.{ℕ, Bool, true, false, ◌||◌, List, [], ◌∷◌, ◌≡◌, eqb, length, Result}
+use Rattle.refusals.specs.declared.Refusal.{Refusal}
 use Rattle.refusals.specs.Reply.{answer, refuse, done, leaves}
+use Rattle.refusals.specs.Replies.{told}
 use Rattle.wire_rules.specs.declared.Response.{Response}
-use Rattle.ipv4.specs.declared.ecn.Marking.{Marking}
-use Rattle.wire_rules.specs.Ipv4.Marks.{marked, dropped, mark_reply, marked_packet}
+use Rattle.wire_rules.specs.declared.Marking.{Marking}
+use Rattle.wire_rules.specs.Ipv4.Marks.{mark_reply, marked_packet}
+use Rattle.wire_rules.specs.declared.Marking.TheVariants.{Marked, Dropped}
 use Rattle.wire_rules.specs.Ipv4.Claims.{SameHeader, LeftAlike}
-use Rattle.ipv4.specs.Replies.{mark_told}
-use Rattle.router.specs.declared.Routed.{Routed}
 use Rattle.gateway_rules.specs.Router.Routers.{routed, silently_routed, Passage, ledger_router}
-use Rattle.router.specs.Replies.{routed_told}
-use Rattle.receiver.specs.declared.Received.{Received}
+use Rattle.gateway_rules.specs.declared.Reaction.{Reaction}
 use Rattle.gateway_rules.specs.Receiver.Reports.{unanswered, reported, received, response_after, reaction_in}
-use Rattle.receiver.specs.Replies.{received_told}
 use Rattle.gateway.specs.Results.{router_result, receiver_result, mark_result, lent_by_c}
 
 -- the number of each answer
@@ -22,8 +21,8 @@ pub record Numbered : Type 0 where
   pub answered : (r : Response) → receiver_result (reaction_in (answer (reported r))) ≡ 0
   pub not_answered : receiver_result (reaction_in (answer unanswered)) ≡ 40
   pub not_received : (n : ℕ) → receiver_result (reaction_in (refuse n)) ≡ n
-  pub is_marked : mark_result (answer marked) ≡ 0
-  pub is_dropped : mark_result (answer dropped) ≡ 41
+  pub is_marked : mark_result (answer Marked) ≡ 0
+  pub is_dropped : mark_result (answer Dropped) ≡ 41
   pub not_marked : (n : ℕ) → mark_result (refuse n) ≡ n
 
 -- what C lends to a router with a ledger, part by part
@@ -35,9 +34,9 @@ pub record Lending : Type 0 where
 
 -- no two answers of a function share a number
 pub record Apart : Type 0 where
-  pub routers : (a b : Routed) → router_result (routed_told a) ≡ router_result (routed_told b) → a ≡ b
-  pub receivers : (a b : Received) → receiver_result (received_told a) ≡ receiver_result (received_told b) → a ≡ b
-  pub marks : (a b : Marking) → mark_result (mark_told a) ≡ mark_result (mark_told b) → a ≡ b
+  pub routers : (a b : Result (Unit {0}) Refusal) → router_result (told a) ≡ router_result (told b) → a ≡ b
+  pub receivers : (a b : Result Reaction Refusal) → receiver_result (told a) ≡ receiver_result (told b) → a ≡ b
+  pub marks : (a b : Result Marking Refusal) → mark_result (told a) ≡ mark_result (told b) → a ≡ b
 
 -- a number is one of a list
 abbrev pub among : List ℕ → ℕ → Bool

@@ -6,18 +6,18 @@
 
 ghost use Rattle.std.specs.Prelude.{◌≡◌, length};
 ghost use Rattle.refusals.specs.Reply.{leaves, done};
+ghost use Rattle.refusals.specs.Replies.{told};
 ghost use Rattle.wire_rules.specs.Ipv4.Marks.{mark_reply, marked_packet};
-ghost use Rattle.ipv4.specs.Replies.{mark_told};
 ghost use Rattle.gateway_rules.specs.Router.Routers.{routed, silently_routed, ledger_router};
-ghost use Rattle.router.specs.Replies.{routed_told};
 ghost use Rattle.gateway_rules.specs.Receiver.Reports.{received, response_after, reaction_in};
-ghost use Rattle.receiver.specs.Replies.{received_told};
 ghost use Rattle.gateway.specs.Results.{router_result, receiver_result, mark_result, lent_by_c};
 
-use gateway_rules::Ledger;
-use ipv4::ecn::{Marking, mark};
-use receiver::{Received, receiver};
-use router::{Routed, router, router_with_ledger, silent_router};
+use gateway_rules::{Ledger, Reaction};
+use ipv4::ecn::mark;
+use receiver::receiver;
+use refusals::Refusal;
+use router::{router, router_with_ledger, silent_router};
+use wire_rules::Marking;
 
 const DONE: u32 = 0;
 
@@ -25,33 +25,33 @@ const UNANSWERED: u32 = 40;
 
 const DROP: u32 = 41;
 
-// The number of each answer.
-fn routed_number(answer: Routed) -> u32
-    ensures { result ≡ router_result (routed_told answer) }
+// The number of each answer. The three stay apart: what was done has other numbers in each.
+fn routed_number(answer: Result<(), Refusal>) -> u32
+    ensures { result ≡ router_result (told answer) }
 {
     match answer {
-        Routed::Done => DONE,
-        Routed::Refused(why) => why.number(),
+        Ok(()) => DONE,
+        Err(why) => why.number(),
     }
 }
 
-fn received_number(answer: Received) -> u32
-    ensures { result ≡ receiver_result (received_told answer) }
+fn received_number(answer: Result<Reaction, Refusal>) -> u32
+    ensures { result ≡ receiver_result (told answer) }
 {
     match answer {
-        Received::Answered => DONE,
-        Received::Unanswered => UNANSWERED,
-        Received::Refused(why) => why.number(),
+        Ok(Reaction::Answered) => DONE,
+        Ok(Reaction::Unanswered) => UNANSWERED,
+        Err(why) => why.number(),
     }
 }
 
-fn marked_number(answer: Marking) -> u32
-    ensures { result ≡ mark_result (mark_told answer) }
+fn marked_number(answer: Result<Marking, Refusal>) -> u32
+    ensures { result ≡ mark_result (told answer) }
 {
     match answer {
-        Marking::Marked => DONE,
-        Marking::Drop => DROP,
-        Marking::Refused(why) => why.number(),
+        Ok(Marking::Marked) => DONE,
+        Ok(Marking::Dropped) => DROP,
+        Err(why) => why.number(),
     }
 }
 
@@ -65,6 +65,7 @@ pub fn qs_router(packet: &mut [u8], ceiling: u32, fresh_nonce: u32) -> u32
 
 // A router with a ledger, whose row and stored tick the caller keeps, as he does its allowance. The tick is stored
 // as the router left it, which is as it was where the ledger was not asked or the call was refused.
+// The parameters stay as they are, one by one: they are those of the C function.
 pub fn qs_router_ledger(
     packet: &mut [u8],
     ceiling: u32,
@@ -77,13 +78,12 @@ pub fn qs_router_ledger(
     ensures result { result ≡ router_result (ledger_router ceiling fresh_nonce present (lent_by_c packet.old row.old tick.old allowance)).said }
     ensures left { lent_by_c packet.new row.new tick.new allowance ≡ (ledger_router ceiling fresh_nonce present (lent_by_c packet.old row.old tick.old allowance)).left }
 {
-    let ledger = Ledger {
+    let mut ledger = Ledger {
         tick: *tick,
         allowance,
     };
-    let routed = router_with_ledger(packet, ceiling, fresh_nonce, row, ledger, present);
-    *tick = routed.ledger.tick;
-    let answer = routed.answer;
+    let answer = router_with_ledger(packet, ceiling, fresh_nonce, row, &mut ledger, present);
+    *tick = ledger.tick;
     routed_number(answer)
 }
 

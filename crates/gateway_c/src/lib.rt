@@ -1,5 +1,5 @@
 // The functions exported to C forwarding loops: each calls the function of its name in the crate `gateway`, and has its
-// contract. include/quickstart.h tells a caller in C what each does.
+// contract. They stand twice for the C interface alone. include/quickstart.h tells a caller in C what each does.
 #![tactic(auto)]
 
 ghost use Rattle.std.specs.Prelude.{◌≡◌, length};

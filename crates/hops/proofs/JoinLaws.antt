@@ -1,5 +1,5 @@
--- Laws of a summary with one router more, and beside what is left of a row. Assumes nothing.
-use Prim.Native.Nat.{ℕ, ◌+◌, ◌≤◌, ◌<◌, min}
+-- Laws of a sum of routers joined with one router more, and with what is left of a row. Assumes nothing.
+use Prim.Native.Nat.{◌+◌, ◌≤◌, ◌<◌}
 use mathlib.Core.List.{List, [], ◌∷◌}
 use mathlib.Core.Path.{◌≡◌, sym, ap, ◌∙◌}
 use native.Mathlib.Omega.{arith}
@@ -11,17 +11,6 @@ use Rattle.hops.specs.Parts.{one}
 use Rattle.path_rules.specs.Hops.Claims.{numbers, Ranged}
 use Rattle.path_rules.proofs.Hops.SummaryLaws.{same_summary, sum_nobody}
 use Rattle.path_rules.proofs.Hops.JoinLaws.{sum_parts, grouped, one_more}
-
--- ---- a summary with one router more, and beside what is left of a row
-
-pub with_knowing : (s : Summary) (ceiling fresh least : ℕ) → s.least ≤ 15 → least ≡ min s.least ceiling
-    → record { routers = s.routers + 1; silent = s.silent; least = least } ≡ joined s (one (Knowing ceiling fresh))
-unfolding joined summary_of silent_ones least_ceiling
-with_knowing s ceiling fresh least h e = same_summary _ _ (omega arith) (omega arith) (omega arith)
-
-pub with_silent : (s : Summary) → s.least ≤ 15 → record { routers = s.routers + 1; silent = s.silent + 1; least = s.least } ≡ joined s (one Silent)
-unfolding joined summary_of silent_ones least_ceiling
-with_silent s h = same_summary _ _ (omega arith) (omega arith) (omega arith)
 
 pub joined_nobody : (rest : List Router) → joined (numbers 0 0 15) (summary_of rest) ≡ summary_of rest
 joined_nobody rest = ap (λ (s : Summary). joined s (summary_of rest)) (sym sum_nobody) ∙ sum_parts [] rest

@@ -1,29 +1,15 @@
--- Laws of the tests that a verdict's numbers go through. Assumes nothing.
-use Prim.Native.Nat.{ℕ, ◌≤◌}
-use mathlib.Core.Bool.{Bool, true, false, ◌&&◌}
-use mathlib.Core.Path.{◌≡◌, refl}
-use native.Mathlib.Omega.{arith}
-use lib.Dec.{leb}
-use Rattle.common.specs.Choice.{within}
-use Rattle.common.proofs.Choice.{in_within, not_within}
-use Rattle.wire_rules.specs.Rates.Steps.{top_code}
-use Rattle.path_rules.specs.Hops.Verdicts.{verdict_in_range}
+-- A law of a call that says a verdict. Assumes nothing.
+use mathlib.Core.Bool.{true, false}
+use mathlib.Core.Path.{◌≡◌, ap}
+use Rattle.std.specs.Prelude.{Result, Ok, Err, IsErr, IsErrAnd}
+use Rattle.common.proofs.Choice.{clash}
+use Rattle.refusals.specs.declared.Refusal.{Refusal}
+use Rattle.refusals.specs.Numbers.{number_of}
+use Rattle.refusals.specs.Reply.{refuse}
+use Rattle.hops.specs.declared.Verdict as code
+use Rattle.hops.specs.Replies.{verdict_reply_told}
 
--- ---- ranges
-
-module _ (ttl code ceiling : ℕ) where
-  pub ttl_out : ttl ≡ 0 → verdict_in_range ttl code ceiling ≡ false
-  unfolding verdict_in_range
-  ttl_out e = simp (not_within 1 ttl 255 (λ h. absurd (omega (arith, h.0))))
-
-  pub code_out : within 1 code top_code ≡ false → verdict_in_range ttl code ceiling ≡ false
-  unfolding verdict_in_range
-  code_out e = go (within 1 ttl 255)
-    where
-      go : (t : Bool) → (t && within 1 code top_code && leb ceiling top_code) ≡ false
-      go true = simp e
-      go false = refl
-
-  pub ceiling_decides : 1 ≤ ttl → ttl ≤ 255 → within 1 code top_code ≡ true → verdict_in_range ttl code ceiling ≡ leb ceiling top_code
-  unfolding verdict_in_range
-  ceiling_decides l h e = simp (in_within 1 ttl 255 l h, e)
+-- what a `?` hands up says the refusal that it met
+pub verdict_handed_up : (r : Result code.Verdict Refusal) (why : Refusal) → IsErr r × IsErrAnd r (λ e. e ≡ why) → verdict_reply_told r ≡ refuse (number_of why)
+verdict_handed_up (Ok v) why h = let e : false ≡ true = h.0 in absurd (clash (cc))
+verdict_handed_up (Err e) why h = ap (λ (w : Refusal). refuse (number_of w)) h.1

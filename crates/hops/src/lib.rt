@@ -8,8 +8,9 @@ ghost use Rattle.wire_rules.specs.Options.Wire.{word_from};
 ghost use Rattle.path_rules.specs.Hops.Rows.{most_routers, front_of, length_of, hops_from};
 ghost use Rattle.path_rules.specs.Hops.Summaries.{joined, summary_of, summary_in_range, summary_reply, join_reply};
 ghost use Rattle.path_rules.specs.Hops.Verdicts.{verdict_in_range, verdict_of, verdict_reply};
+ghost use Rattle.refusals.specs.Replies.{told};
 ghost use Rattle.hops.specs.Parts.{one};
-ghost use Rattle.hops.specs.Replies.{front_told, summary_told, verdict_told, verdict_answer_told};
+ghost use Rattle.hops.specs.Replies.{verdict_told, verdict_reply_told};
 
 use options::word_from;
 use path_rules::{Router, Summary};
@@ -28,27 +29,14 @@ pub const SILENT: u8 = 3;
 
 pub const SILENT_LENGTH: usize = 1;
 
-// What stands at a place of a row: a router's whole record with its ceiling in range, or none.
-#[derive(Clone, Copy)]
-pub enum Front {
-    Of(Router),
-    Nothing,
-}
-
-#[derive(Clone, Copy)]
-pub enum SummaryAnswer {
-    Of(Summary),
-    Refused(Refusal),
-}
-
 // The summary of the records of routers at the start of some bytes, as many as there are up to 64, and where they end.
-#[derive(Clone, Copy)]
+#[derive(Clone, Copy, Debug, PartialEq, Eq)]
 pub struct Extent {
     pub summary: Summary,
     pub end: usize,
 }
 
-#[derive(Clone, Copy)]
+#[derive(Clone, Copy, Debug, PartialEq, Eq)]
 pub enum Verdict {
     // A router met an IP TTL of 0 or 1.
     Lost,
@@ -57,12 +45,6 @@ pub enum Verdict {
     NotAccepted(Refusal),
     // The sender accepted this rate code.
     Accepted(u32),
-}
-
-#[derive(Clone, Copy)]
-pub enum VerdictAnswer {
-    Of(Verdict),
-    Refused(Refusal),
 }
 
 // ---- rows
@@ -74,39 +56,22 @@ pub fn nonce_of(a: u8, b: u8, c: u8, d: u8) -> u32
     word_from(a, b, c, d) / 4
 }
 
-// A byte as a number.
-pub fn wide(byte: u8) -> u32
-    ensures { result ≡ byte }
-{
-    byte as u32
-}
-
 // The router whose record stands at a place of a row, if a whole record with its ceiling in range does.
-pub fn router_at(row: &[u8], at: usize) -> Front
-    ensures { front_told result ≡ front_of (drop at row.now) }
+#[tactic(auto, unfolding(path_rules::specs::Hops::Rows::front_of, path_rules::specs::Hops::Rows::is_knowing))]
+pub fn router_at(row: &[u8], at: usize) -> Option<Router>
+    ensures { result ≡ front_of (drop at row.now) }
 {
-    if at >= row.len() {
-        return Front::Nothing;
+    match row.get(at..)? {
+        [SILENT, ..] => Some(Router::Silent),
+        [KNOWING, ceiling, a, b, c, d, ..] if u32::from(*ceiling) <= TOP_CODE => {
+            Some(Router::Knowing(u32::from(*ceiling), nonce_of(*a, *b, *c, *d)))
+        }
+        _ => None,
     }
-    let kind = row[at];
-    if kind == SILENT {
-        return Front::Of(Router::Silent);
-    }
-    if kind != KNOWING {
-        return Front::Nothing;
-    }
-    if row.len() - at < KNOWING_LENGTH {
-        return Front::Nothing;
-    }
-    let ceiling = wide(row[at + 1]);
-    if ceiling > TOP_CODE {
-        return Front::Nothing;
-    }
-    let fresh = nonce_of(row[at + 2], row[at + 3], row[at + 4], row[at + 5]);
-    Front::Of(Router::Knowing(ceiling, fresh))
 }
 
 // The length of a router's record.
+#[tactic(auto, unfolding(path_rules::specs::Hops::Rows::length_of))]
 pub fn length_of(router: Router) -> usize
     ensures { result ≡ length_of router }
 {
@@ -117,6 +82,7 @@ pub fn length_of(router: Router) -> usize
 }
 
 // A summary with one router more.
+#[tactic(auto, unfolding(path_rules::specs::Hops::Summaries::joined, path_rules::specs::Hops::Summaries::summary_of, path_rules::specs::Hops::Summaries::silent_ones, path_rules::specs::Hops::Summaries::least_ceiling))]
 fn with_router(sum: Summary, router: Router) -> Summary
     requires { (sum.routers < most_routers) × (sum.silent ≤ sum.routers) × (sum.least ≤ top_code) }
     ensures { result ≡ joined sum (one router) }
@@ -124,18 +90,19 @@ fn with_router(sum: Summary, router: Router) -> Summary
     match router {
         Router::Knowing(ceiling, _) => Summary {
             routers: sum.routers + 1,
-            silent: sum.silent,
             least: lesser(sum.least, ceiling),
+            ..sum
         },
         Router::Silent => Summary {
             routers: sum.routers + 1,
             silent: sum.silent + 1,
-            least: sum.least,
+            ..sum
         },
     }
 }
 
 // Sums up the records of routers at the start of some bytes, at most 64 of them.
+#[tactic(auto, using(crate::proofs::SurveyLaws::begins, crate::proofs::SurveyLaws::fits_behind, crate::proofs::SurveyLaws::ends, crate::proofs::SurveyLaws::ends_full))]
 pub fn survey(bytes: &[u8]) -> Extent
     ensures sum { result.summary ≡ summary_of (hops_from most_routers bytes.now).routers }
     ensures end { result.end + length (hops_from most_routers bytes.now).rest ≡ length bytes.now }
@@ -146,17 +113,12 @@ pub fn survey(bytes: &[u8]) -> Extent
         least: TOP_CODE,
     };
     let mut at = 0;
-    while sum.routers < MOST_ROUTERS {
-        match router_at(bytes, at) {
-            Front::Nothing => return Extent {
-                summary: sum,
-                end: at,
-            },
-            Front::Of(router) => {
-                sum = with_router(sum, router);
-                at += length_of(router);
-            }
-        }
+    for _ in 0..MOST_ROUTERS {
+        let Some(router) = router_at(bytes, at) else {
+            break;
+        };
+        sum = with_router(sum, router);
+        at += length_of(router);
     }
     Extent {
         summary: sum,
@@ -167,44 +129,33 @@ pub fn survey(bytes: &[u8]) -> Extent
 // ---- summaries
 
 // The summary of a row of hops.
-pub fn summarize(row: &[u8]) -> SummaryAnswer
-    ensures { summary_told result ≡ summary_reply most_routers row.now }
+pub fn summarize(row: &[u8]) -> Result<Summary, Refusal>
+    ensures { told result ≡ summary_reply most_routers row.now }
 {
     let found = survey(row);
     if found.end != row.len() {
-        return SummaryAnswer::Refused(Refusal::OutOfRange);
+        return Err(Refusal::OutOfRange);
     }
-    let sum = found.summary;
-    SummaryAnswer::Of(sum)
+    Ok(found.summary)
 }
 
 // Whether the numbers of a summary are in their ranges.
+#[tactic(auto, unfolding(path_rules::specs::Hops::Summaries::summary_in_range))]
 fn summary_in_range(sum: Summary) -> bool
     ensures { result ≡ summary_in_range sum }
 {
-    if sum.routers > MOST_ROUTERS {
-        return false;
-    }
-    if sum.silent > sum.routers {
-        return false;
-    }
-    sum.least <= TOP_CODE
+    sum.routers <= MOST_ROUTERS && sum.silent <= sum.routers && sum.least <= TOP_CODE
 }
 
 // The summary of two parts of a path together.
-pub fn join(a: Summary, b: Summary) -> SummaryAnswer
-    ensures { summary_told result ≡ join_reply a b }
+#[tactic(auto, unfolding(path_rules::specs::Hops::Summaries::joined, path_rules::specs::Hops::Summaries::summary_in_range))]
+pub fn join(a: Summary, b: Summary) -> Result<Summary, Refusal>
+    ensures { told result ≡ join_reply a b }
 {
-    if !summary_in_range(a) {
-        return SummaryAnswer::Refused(Refusal::OutOfRange);
+    if !summary_in_range(a) || !summary_in_range(b) || a.routers + b.routers > MOST_ROUTERS {
+        return Err(Refusal::OutOfRange);
     }
-    if !summary_in_range(b) {
-        return SummaryAnswer::Refused(Refusal::OutOfRange);
-    }
-    if a.routers + b.routers > MOST_ROUTERS {
-        return SummaryAnswer::Refused(Refusal::OutOfRange);
-    }
-    SummaryAnswer::Of(Summary {
+    Ok(Summary {
         routers: a.routers + b.routers,
         silent: a.silent + b.silent,
         least: lesser(a.least, b.least),
@@ -214,6 +165,7 @@ pub fn join(a: Summary, b: Summary) -> SummaryAnswer
 // ---- verdicts
 
 // The verdict of a summary.
+#[tactic(auto, unfolding(path_rules::specs::Hops::Verdicts::verdict_of))]
 fn judge(sum: Summary, ttl: u32, code: u32, ceiling: u32) -> Verdict
     ensures { verdict_told result ≡ verdict_of sum ttl code ceiling }
 {
@@ -231,28 +183,20 @@ fn judge(sum: Summary, ttl: u32, code: u32, ceiling: u32) -> Verdict
 }
 
 // Whether the numbers that a verdict is asked with are in their ranges.
+#[tactic(auto, unfolding(path_rules::specs::Hops::Verdicts::verdict_in_range, common::specs::Choice::within))]
 fn verdict_in_range(ttl: u8, code: u32, ceiling: u32) -> bool
     ensures { result ≡ verdict_in_range ttl code ceiling }
 {
-    if ttl == 0 {
-        return false;
-    }
-    if !in_range(1, code as u64, TOP_CODE as u64) {
-        return false;
-    }
-    ceiling <= TOP_CODE
+    ttl != 0 && in_range(1, code as u64, TOP_CODE as u64) && ceiling <= TOP_CODE
 }
 
 // The verdict of a path with this summary, for a request with a starting IP TTL and the code asked, and a receiver
 // with a ceiling.
-pub fn verdict_of(sum: Summary, ttl: u8, code: u32, ceiling: u32) -> VerdictAnswer
-    ensures { verdict_answer_told result ≡ verdict_reply sum ttl code ceiling }
+pub fn verdict_of(sum: Summary, ttl: u8, code: u32, ceiling: u32) -> Result<Verdict, Refusal>
+    ensures { verdict_reply_told result ≡ verdict_reply sum ttl code ceiling }
 {
-    if !summary_in_range(sum) {
-        return VerdictAnswer::Refused(Refusal::OutOfRange);
+    if !summary_in_range(sum) || !verdict_in_range(ttl, code, ceiling) {
+        return Err(Refusal::OutOfRange);
     }
-    if !verdict_in_range(ttl, code, ceiling) {
-        return VerdictAnswer::Refused(Refusal::OutOfRange);
-    }
-    VerdictAnswer::Of(judge(sum, ttl as u32, code, ceiling))
+    Ok(judge(sum, u32::from(ttl), code, ceiling))
 }

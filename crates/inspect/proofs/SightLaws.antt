@@ -1,5 +1,5 @@
 -- Laws of what `look` sees, by the place that was located and what was read there. Assumes nothing.
-use Prim.Native.Nat.{ℕ, ◌+◌, ◌-◌}
+use Prim.Native.Nat.{ℕ, ◌+◌, ◌-◌, ◌≤◌}
 use mathlib.Core.List.{List}
 use mathlib.Core.Path.{◌≡◌, sym, ap, ◌∙◌}
 use native.Mathlib.Omega.{arith}
@@ -10,42 +10,39 @@ use Rattle.refusals.proofs.ReplyLaws.{same_answer}
 use Rattle.wire_rules.specs.declared.Request.{Request}
 use Rattle.wire_rules.specs.Options.Wire.{option_length}
 use Rattle.wire_rules.specs.Options.Requests.{request_read}
-use Rattle.wire_rules.specs.declared.Place.{Place}
-use Rattle.wire_rules.specs.declared.Place.TheVariants.{Nowhere, At}
+use Rattle.std.specs.Prelude.{None, Some, IfSome}
+use Rattle.wire_rules.specs.Walk.Walks.{Place}
 use Rattle.wire_rules.specs.Ipv4.Headers.{ip_ttl}
 use Rattle.wire_rules.specs.Ipv4.Packets.{ttl_reply, located}
 use Rattle.wire_rules.specs.Ipv4.Views.{as_request, request_at}
 use Rattle.wire_rules.proofs.Ipv4.OptionLaws.{found}
 use Rattle.wire_rules.proofs.Ipv4.Claims.{locating, reading}
-use Rattle.gateway_rules.specs.declared.Asking.{Asking}
-use Rattle.gateway_rules.specs.declared.Asking.TheVariants.{Nothing, For}
-use Rattle.gateway_rules.specs.Inspect.Sights.{asking_at, sighted}
-use Rattle.inspect.specs.Parts.{Room}
+use Rattle.gateway_rules.specs.Inspect.Sights.{asking_at, sighted, Asking}
 
 -- ---- what was read at a place
 
 -- the eight bytes lent were the option's
-module _ (place : Place) (at : ℕ) (packet : List ℕ) (here : place ≡ At at) where
+module _ (place : Place) (at : ℕ) (packet : List ℕ) (here : place ≡ Some at) where
   abbrev lent_part : List ℕ
   lent_part = take (at + option_length - at) (drop at packet)
 
-  asked_by : (read : Reply Request) → read ≡ request_read lent_part → asking_at (At at) (as_request read) ≡ asking_at place (request_at place packet)
+  asked_by : (read : Reply Request) → read ≡ request_read lent_part → asking_at (Some at) (as_request read) ≡ asking_at place (request_at place packet)
   asked_by read e =
-      ap (λ (r : Reply Request). asking_at (At at) (as_request r)) (e ∙ ap (λ (n : ℕ). request_read (take n (drop at packet))) {x = at + option_length - at} {y = option_length} (omega arith))
+      ap (λ (r : Reply Request). asking_at (Some at) (as_request r)) (e ∙ ap (λ (n : ℕ). request_read (take n (drop at packet))) {x = at + option_length - at} {y = option_length} (omega arith))
       ∙ ap (λ (p : Place). asking_at p (request_at p packet)) (sym here)
 
-  pub read_other : (n : ℕ) → refuse n ≡ request_read lent_part → Nothing ≡ asking_at place (request_at place packet)
+  pub read_other : (n : ℕ) → refuse n ≡ request_read lent_part → None ≡ asking_at place (request_at place packet)
   read_other n e = asked_by (refuse n) e
 
-  pub read_request : (r : Request) → answer r ≡ request_read lent_part → For at r ≡ asking_at place (request_at place packet)
+  pub read_request : (r : Request) → answer r ≡ request_read lent_part → Some (at, r) ≡ asking_at place (request_at place packet)
   read_request r e = asked_by (answer r) e
 
 -- ---- what was located
 
 -- a located option has room for its eight bytes
-pub room_of : (reach : ℕ) (packet : List ℕ) (place : Place) → located reach packet ≡ answer place → Room place (length packet)
-room_of reach packet Nowhere e = tt
-room_of reach packet (At o) e = let i = locating.inside reach o packet e in omega (arith, i.room, i.header)
+pub room_of : (reach : ℕ) (packet : List ℕ) (place : Place) → answer place ≡ located reach packet → IfSome place (λ at. at + option_length ≤ length packet)
+room_of reach packet None e = tt
+room_of reach packet (Some o) e = let i = locating.inside reach o packet (sym e) in omega (arith, i.room, i.header)
 
 -- where something was located, the IP TTL is read
 pub ttl_of : (reach : ℕ) (packet : List ℕ) (place : Place) → located reach packet ≡ answer place → ttl_reply reach packet ≡ answer (ip_ttl packet)

@@ -2,55 +2,36 @@
 // request with the place of the option.
 #![tactic(auto)]
 
-ghost use Rattle.std.specs.Prelude.{◌≡◌, length};
+ghost use Rattle.std.specs.Prelude.{◌≡◌, ◌+◌, ◌≤◌, length, IfSome};
+ghost use Rattle.wire_rules.specs.Options.Wire.{option_length};
 ghost use Rattle.wire_rules.specs.Ipv4.Views.{request_at};
 ghost use Rattle.gateway_rules.specs.Inspect.Sights.{asking_at, sighted};
-ghost use Rattle.inspect.specs.Parts.{Room};
-ghost use Rattle.inspect.specs.Replies.{sight_told};
+ghost use Rattle.refusals.specs.Replies.{told};
 
-use gateway_rules::{Asking, Seen};
-use ipv4::{IpTtl, ip_ttl, locate};
-use options::request::Reading;
+use gateway_rules::Seen;
+use ipv4::{ip_ttl, locate};
 use options::{OPTION_LENGTH, request};
 use refusals::Refusal;
-use walk::Finding;
-use wire_rules::{Place, Request};
+use wire_rules::Request;
 
-#[derive(Clone, Copy)]
-pub enum Sight {
-    Of(Seen),
-    Refused(Refusal),
-}
-
-// What stands at the place of a packet's option.
-fn read_at(packet: &[u8], place: Place) -> Asking
-    requires { Room place (length packet.now) }
+// What stands at the place of a packet's option: a request, or nothing that asks.
+#[tactic(auto, using(crate::proofs::SightLaws::read_other, crate::proofs::SightLaws::read_request))]
+fn read_at(packet: &[u8], place: Option<usize>) -> Option<(usize, Request)>
+    requires { IfSome place (λ at. at + option_length ≤ length packet.now) }
     ensures { result ≡ asking_at place (request_at place packet.now) }
 {
-    match place {
-        Place::Nowhere => Asking::Nothing,
-        Place::At(at) => {
-            let end = at + OPTION_LENGTH;
-            match request::read(&packet[at..end]) {
-                Reading::Refused(_) => Asking::Nothing,
-                Reading::Request(request) => Asking::For(at, request),
-            }
-        }
-    }
+    let at = place?;
+    let request = request::read(&packet[at..at + OPTION_LENGTH]).ok()?;
+    Some((at, request))
 }
 
 // Looks at a packet: its header is checked and its options are walked first.
-pub fn look(packet: &[u8]) -> Sight
-    ensures { sight_told result ≡ sighted (length packet.now) packet.now }
+#[tactic(auto, using(crate::proofs::SightLaws::sight_refused, crate::proofs::SightLaws::no_refusal, crate::proofs::SightLaws::sight_of))]
+pub fn look(packet: &[u8]) -> Result<Seen, Refusal>
+    ensures { told result ≡ sighted (length packet.now) packet.now }
 {
-    match locate(packet) {
-        Finding::Refused(why) => Sight::Refused(why),
-        Finding::Found(place) => match ip_ttl(packet) {
-            IpTtl::Refused(why) => Sight::Refused(why),
-            IpTtl::Is(ttl) => {
-                let asking = read_at(packet, place);
-                Sight::Of(Seen { ttl, asking })
-            }
-        },
-    }
+    let place = locate(packet)?;
+    let ttl = ip_ttl(packet)?;
+    let asking = read_at(packet, place);
+    Ok(Seen { ttl, asking })
 }

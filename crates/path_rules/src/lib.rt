@@ -6,7 +6,8 @@
 
 // ---- hops
 
-#[derive(Clone, Copy)]
+// Not an Option of two numbers, which would be no plainer: a router that is silent is there, and lowers the IP TTL.
+#[derive(Clone, Copy, Debug, PartialEq, Eq)]
 pub enum Router {
     // One that knows Quick-Start, with its ceiling and its fresh nonce.
     Knowing(u32, u32),
@@ -15,7 +16,7 @@ pub enum Router {
 
 // The summary of a part of a path: its routers, the silent ones among them, and the least ceiling of those that know
 // Quick-Start, 15 if there are none.
-#[derive(Clone, Copy)]
+#[derive(Clone, Copy, Debug, PartialEq, Eq)]
 pub struct Summary {
     pub routers: u32,
     pub silent: u32,
@@ -26,8 +27,9 @@ pub struct Summary {
 
 // A router on a path: whether it knows Quick-Start, its ceiling and its fresh nonce. A row in which either number is out
 // of range, a silent hop's too, is refused with 7.
+// The flag stands beside the numbers because C lends the record so.
 #[repr(C)]
-#[derive(Clone, Copy)]
+#[derive(Clone, Copy, Debug, PartialEq, Eq)]
 pub struct Hop {
     pub knows: bool,
     pub ceiling: u32,

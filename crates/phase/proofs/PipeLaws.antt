@@ -1,35 +1,31 @@
--- Laws of pipeACK, from place to place. Assumes nothing.
-use Prim.Native.Nat.{ℕ, zero, suc, ◌-◌, ◌≤◌, ◌<◌}
-use mathlib.Core.List.{List}
-use mathlib.Core.Option.{Option, none}
-use mathlib.Core.Path.{◌≡◌, refl, sym, ap}
-use native.Mathlib.Nat.{sub-zero}
+-- pipeACK by a filter: it is the greatest of the bytes of those samples that are recent. Assumes nothing.
+use Prim.Native.Nat.{ℕ, max}
+use mathlib.Core.Bool.{Bool, true, false, cond}
+use mathlib.Core.List.{List, [], ◌∷◌, map}
+use mathlib.Core.Path.{◌≡◌, refl, ap, ◌∙◌}
 use native.Mathlib.Omega.{arith}
-use lib.ListN.{length, get_or, take, drop}
-use Rattle.common.proofs.Lists.{part_cons}
+use Rattle.std.specs.Prelude.{Option, Some}
+use Rattle.std.specs.List.{filter, fold, reduce}
+use Rattle.common.specs.Choice.{pick}
 use Rattle.sender_rules.specs.declared.Sample.{Sample}
-use Rattle.sender_rules.specs.Congestion.Phases.{or_greater, pipe_ack}
-use Rattle.sender_rules.specs.Connections.Claims.{no_sample}
+use Rattle.sender_rules.specs.Congestion.Phases.{is_recent, greater_of, or_greater, pipe_ack}
 
-module _ (limit time : ℕ) (l : List Sample) (n : ℕ) where
-  -- pipeACK of the samples from place i on, of the first n
-  abbrev pub from : ℕ → Option ℕ
-  from i = pipe_ack limit time (take (n - i) (drop i l))
+-- the greatest of a number and of others, from the front on
+joined : (a b : ℕ) (l : List ℕ) → fold max (max a b) l ≡ max a (fold max b l)
+joined a b [] = refl
+joined a b (n ∷ l) = ap (λ (m : ℕ). fold max m l) {x = max (max a b) n} {y = max a (max b n)} (omega arith) ∙ joined a (max b n) l
 
-  pub none_yet : none ≡ from n
-  unfolding pipe_ack
-  none_yet = let e : n - n ≡ 0 = omega arith in rw e refl
+front : (n : ℕ) (l : List ℕ) → reduce max (n ∷ l) ≡ Some (greater_of n (reduce max l))
+front n [] = refl
+front n (m ∷ l) = ap Some (joined n m l)
 
-  one_more : (i : ℕ) → n ≤ length l → i < n → from i ≡ or_greater limit time (get_or l i no_sample) (from (suc i))
-  unfolding pipe_ack
-  one_more i long h = ap (pipe_ack limit time) (part_cons l i n no_sample h long)
+-- one more sample in front, by whether it is recent
+step : (t : Bool) (s : Sample) (rest : List Sample) (o : Option ℕ) → reduce max (map (λ s. s.bytes) rest) ≡ o
+    → reduce max (map (λ s. s.bytes) (cond t (s ∷ rest) rest)) ≡ pick t (Some (greater_of s.bytes o)) o
+step true s rest o e = front s.bytes (map (λ s. s.bytes) rest) ∙ ap (λ (p : Option ℕ). Some (greater_of s.bytes p)) e
+step false s rest o e = e
 
-  -- one place back
-  pub further : n ≤ length l → (i : ℕ) → 0 < i → i ≤ n → or_greater limit time (get_or l (i - 1) no_sample) (from i) ≡ from (i - 1)
-  further long zero p h = absurd (omega arith)
-  further long (suc i) p h = let e : suc i - 1 ≡ i = omega arith in rw e (sym (one_more i long (omega arith)))
-
-  -- all of them
-  pub all : (i : ℕ) → i ≤ 0 → from i ≡ pipe_ack limit time (take n l)
-  all zero h = ap (λ (k : ℕ). pipe_ack limit time (take k l)) (sub-zero n)
-  all (suc i) h = absurd (omega arith)
+pub greatest : (limit time : ℕ) (l : List Sample) → reduce max (map (λ s. s.bytes) (filter (is_recent limit time) l)) ≡ pipe_ack limit time l
+unfolding pipe_ack or_greater
+greatest limit time [] = refl
+greatest limit time (s ∷ l) = step (is_recent limit time s) s (filter (is_recent limit time) l) (pipe_ack limit time l) (greatest limit time l)

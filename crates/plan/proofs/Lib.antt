@@ -1,4 +1,3 @@
-pub mod TextLaws
-pub mod InputLaws
 pub mod ReadLaws
 pub mod RunPathLaws
+pub mod TextLaws

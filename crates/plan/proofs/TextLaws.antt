@@ -1,25 +1,13 @@
 -- Laws of a line's text: a byte more, and a number's digits one by one. Assumes nothing.
-use Prim.Native.Nat.{ℕ, zero, suc, ◌+◌, ◌/◌, ◌%◌, ◌≤◌, ◌<◌}
+use Prim.Native.Nat.{ℕ, suc, ◌+◌, ◌/◌, ◌%◌, ◌≤◌, ◌<◌}
 use mathlib.Core.List.{List, [], ◌∷◌, ◌++◌, append_assoc}
-use mathlib.Core.Path.{◌≡◌, refl, sym, ap, ◌∙◌}
-use native.Mathlib.Omega.{arith}
-use lib.ListN.{length, set, take}
-use lib.Seq.{length-take-le}
-use Rattle.plan.specs.declared.Text.{Text}
+use mathlib.Core.Path.{◌≡◌, sym, ap, ◌∙◌}
 use Rattle.path_rules.specs.Plan.Lines.{last_digits, decimal}
-use Rattle.plan.specs.Texts.{text_of}
 use Rattle.path_rules.proofs.Plan.DecimalLaws.{digit_last, digits_2, digits_3, digits_4}
 
--- a byte stored behind the first n places is the last of the first n + 1
-pub stored_behind : (l : List ℕ) (n b : ℕ) → n < length l → take (n + 1) (set l n b) ≡ take n l ++ (b ∷ [])
-stored_behind (x ∷ l) zero b h = refl
-stored_behind (x ∷ l) (suc n) b h =
-    ap (λ (k : ℕ). take k (x ∷ set l n b)) {x = suc n + 1} {y = suc (n + 1)} (omega arith) ∙ ap (λ (t : List ℕ). x ∷ t) (stored_behind l n b (omega arith))
-stored_behind [] n b h = absurd (omega arith)
-
--- a text is as long as what it says
-pub text_length : (text : Text) (line : List ℕ) → length text.bytes ≡ 16 → text.len ≤ 16 → text_of text ≡ line → text.len ≡ length line
-text_length text line room h e = sym (length-take-le text.len text.bytes (omega arith)) ∙ ap length e
+-- a word in front of a number and the line's end
+pub in_front : (word number : List ℕ) → (word ++ number) ++ (10 ∷ []) ≡ word ++ (number ++ (10 ∷ []))
+in_front word number = append_assoc word number (10 ∷ [])
 
 -- ---- a text, and the digits of a number put behind it one by one
 

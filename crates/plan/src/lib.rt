@@ -4,129 +4,99 @@
 
 ghost use Rattle.std.specs.Prelude.{true, [], ◌∷◌, ◌++◌, ◌≡◌, ◌+◌, ◌*◌, ◌≤◌, ◌<◌, length, drop};
 ghost use Rattle.path_rules.specs.Hops.Rows.{most_routers};
-ghost use Rattle.hops.specs.Replies.{verdict_told, verdict_answer_told};
+ghost use Rattle.hops.specs.Replies.{verdict_told, verdict_reply_told};
 ghost use Rattle.path_rules.specs.Path.Demands.{header_with};
 ghost use Rattle.path_rules.specs.Plan.Records.{starts_request, starts_receiver, hops_of, plan_of};
-ghost use Rattle.path_rules.specs.Plan.Lines.{decimal, verdict_line, bad_line, verdict_for, line_of};
-ghost use Rattle.plan.specs.Texts.{text_of};
+ghost use Rattle.path_rules.specs.Plan.Lines.{decimal, numbered, verdict_line, bad_line, verdict_for, line_of};
 ghost use Rattle.plan.specs.Parts.{run_said};
 
+use arrayvec::ArrayString;
 use asking::ask;
-use connection::fresh;
-use hops::{Verdict, VerdictAnswer, nonce_of, survey, wide};
+use connection::fresh_record;
+use hops::{Verdict, nonce_of, survey};
 use ipv4::write_checksum;
-use path::{HEADERS, MSS, RTT, SSTHRESH, WINDOW, run};
+use path::{RTT, SSTHRESH, TRANSPORT, WINDOW, run};
 use rates::TOP_CODE;
+use refusals::{Refusal, in_range};
+use sender_rules::Wish;
 
-// A line's bytes stand in the first `len` places.
-#[derive(Clone, Copy)]
-pub struct Text {
-    pub bytes: [u8; 16],
-    pub len: usize,
-}
+// Room for the longest line: `unanswered` and the line's end are eleven bytes.
+pub const LONGEST_LINE: usize = 16;
 
 // ---- the line
 
-// A text with one byte more.
-fn with_byte(text: Text, byte: u8) -> Text
-    requires { text.len < 16 }
-    ensures text { text_of result ≡ text_of text ++ (byte ∷ []) }
-    ensures len { result.len ≡ text.len + 1 }
+// Puts one digit behind a text.
+fn push_digit(text: &mut ArrayString<LONGEST_LINE>, digit: u32)
+    requires { (length text.old.bytes < 16) × (digit < 10) }
+    ensures { text.new.bytes ≡ text.old.bytes ++ (48 + digit) ∷ [] }
 {
-    let mut bytes = text.bytes;
-    let at = text.len;
-    bytes[at] = byte;
-    Text { bytes, len: at + 1 }
+    text.push((b'0' + digit as u8) as char);
 }
 
-// A text with one digit more.
-fn with_digit(text: Text, digit: u32) -> Text
-    requires { (text.len < 16) × (digit < 10) }
-    ensures text { text_of result ≡ text_of text ++ ((48 + digit) ∷ []) }
-    ensures len { result.len ≡ text.len + 1 }
-{
-    with_byte(text, 48 + digit as u8)
-}
-
-// A text with a number behind it, in decimal: its last four digits, if it has more.
-fn with_number(text: Text, n: u32) -> Text
-    requires { text.len ≤ 12 }
-    ensures text { text_of result ≡ text_of text ++ decimal n }
-    ensures len { result.len ≤ text.len + 4 }
+// Puts a number behind a text, in decimal: its last four digits, if it has more. Digit by digit and not by `write!`: that is
+// the definition `decimal`, and the edit `hundred_in_two_digits` holds the tests.
+#[tactic(auto, using(crate::proofs::TextLaws::one_digit, crate::proofs::TextLaws::four_digits))]
+fn push_number(text: &mut ArrayString<LONGEST_LINE>, n: u32)
+    requires { length text.old.bytes ≤ 12 }
+    ensures number { text.new.bytes ≡ text.old.bytes ++ decimal n }
+    ensures len { length text.new.bytes ≤ length text.old.bytes + 4 }
 {
     if n < 10 {
-        return with_digit(text, n);
+        push_digit(text, n);
+        return;
     }
     if n < 100 {
-        let tens = with_digit(text, n / 10);
-        return with_digit(tens, n % 10);
+        push_digit(text, n / 10);
+        push_digit(text, n % 10);
+        return;
     }
     if n < 1000 {
-        let hundreds = with_digit(text, n / 100);
-        let tens = with_digit(hundreds, n / 10 % 10);
-        return with_digit(tens, n % 10);
+        push_digit(text, n / 100);
+        push_digit(text, n / 10 % 10);
+        push_digit(text, n % 10);
+        return;
     }
-    let thousands = with_digit(text, n / 1000 % 10);
-    let hundreds = with_digit(thousands, n / 100 % 10);
-    let tens = with_digit(hundreds, n / 10 % 10);
-    with_digit(tens, n % 10)
+    push_digit(text, n / 1000 % 10);
+    push_digit(text, n / 100 % 10);
+    push_digit(text, n / 10 % 10);
+    push_digit(text, n % 10);
 }
 
-// A text, a number and the end of the line.
-fn with_end(text: Text, n: u32) -> Text
-    requires { text.len ≤ 11 }
-    ensures text { text_of result ≡ text_of text ++ (decimal n ++ (10 ∷ [])) }
-    ensures len { result.len ≤ 16 }
+// A word, a number and the end of the line.
+#[tactic(auto, using(crate::proofs::TextLaws::in_front))]
+fn numbered(word: &str, n: u32) -> ArrayString<LONGEST_LINE>
+    requires { length word.now ≤ 11 }
+    ensures { result.bytes ≡ numbered word.now n }
 {
-    with_byte(with_number(text, n), 10)
+    let mut line = ArrayString::new();
+    line.push_str(word);
+    push_number(&mut line, n);
+    line.push('\n');
+    line
 }
 
 // The line of a verdict.
-fn verdict_line(verdict: Verdict) -> Text
-    ensures text { text_of result ≡ verdict_line (verdict_told verdict) }
-    ensures len { result.len ≤ 16 }
+#[tactic(auto, unfolding(path_rules::specs::Plan::Lines::verdict_line))]
+fn verdict_line(verdict: Verdict) -> ArrayString<LONGEST_LINE>
+    ensures { result.bytes ≡ verdict_line (verdict_told verdict) }
 {
+    let mut line = ArrayString::new();
     match verdict {
-        Verdict::Lost => Text {
-            bytes: [108, 111, 115, 116, 10, 0, 0, 0, 0, 0, 0, 0, 0, 0, 0, 0],
-            len: 5,
-        },
-        Verdict::Unanswered => Text {
-            bytes: [
-                117, 110, 97, 110, 115, 119, 101, 114, 101, 100, 10, 0, 0, 0, 0, 0,
-            ],
-            len: 11,
-        },
-        Verdict::NotAccepted(why) => with_end(
-            Text {
-                bytes: [110, 111, 110, 101, 32, 0, 0, 0, 0, 0, 0, 0, 0, 0, 0, 0],
-                len: 5,
-            },
-            why.number(),
-        ),
-        Verdict::Accepted(rate) => with_end(
-            Text {
-                bytes: [114, 97, 116, 101, 32, 0, 0, 0, 0, 0, 0, 0, 0, 0, 0, 0],
-                len: 5,
-            },
-            rate,
-        ),
+        Verdict::Lost => line.push_str("lost\n"),
+        Verdict::Unanswered => line.push_str("unanswered\n"),
+        Verdict::NotAccepted(why) => return numbered("none ", why.number()),
+        Verdict::Accepted(rate) => return numbered("rate ", rate),
     }
+    line
 }
 
 // The line of an input that is bad at an offset.
-fn bad_line(at: usize) -> Text
+#[tactic(auto, unfolding(path_rules::specs::Plan::Lines::bad_line))]
+fn bad_line(at: usize) -> ArrayString<LONGEST_LINE>
     requires { at < 10000 }
-    ensures text { text_of result ≡ bad_line at }
-    ensures len { result.len ≤ 16 }
+    ensures { result.bytes ≡ bad_line at }
 {
-    with_end(
-        Text {
-            bytes: [98, 97, 100, 32, 0, 0, 0, 0, 0, 0, 0, 0, 0, 0, 0, 0],
-            len: 4,
-        },
-        at as u32,
-    )
+    numbered("bad ", at as u32)
 }
 
 // ---- the run
@@ -135,26 +105,24 @@ fn bad_line(at: usize) -> Text
 fn header_with(ttl: u8, request: [u8; 8]) -> [u8; 28]
     ensures { result ≡ header_with ttl request }
 {
-    [
-        71, 0, 0, 28, 0, 0, 0, 0, ttl, 6, 0, 0, 10, 0, 0, 1, 10, 0, 0, 2, request[0], request[1],
-        request[2], request[3], request[4], request[5], request[6], request[7],
-    ]
+    let mut header = [0; 28];
+    header[..20].copy_from_slice(&[
+        71, 0, 0, 28, 0, 0, 0, 0, ttl, 6, 0, 0, 10, 0, 0, 1, 10, 0, 0, 2,
+    ]);
+    header[20..].copy_from_slice(&request);
+    header
 }
 
 // Runs the path: a fresh connection asks, its request goes out in a plain packet, and the run does the rest.
-fn run_path(row: &[u8], code: u32, ttl: u8, qs_ttl: u8, nonce: u32, ceiling: u32) -> VerdictAnswer
-    ensures { verdict_answer_told result ≡ run_said code ttl qs_ttl nonce ceiling row.now }
+fn run_path(row: &[u8], wish: Wish, ceiling: u32) -> Result<Verdict, Refusal>
+    ensures { verdict_reply_told result ≡ run_said wish ceiling row.now }
 {
-    let opened = fresh(WINDOW, SSTHRESH);
-    let connection = opened.connection;
+    let mut connection = fresh_record(WINDOW, SSTHRESH);
     let mut request = [0; 8];
-    let asked = ask(connection, code, ttl, qs_ttl, nonce, RTT, 0, &mut request);
-    let waiting = asked.connection;
-    let mut packet = header_with(ttl, request);
-    write_checksum(&mut packet);
-    let ran = run(waiting, &mut packet, row, ceiling, RTT, MSS, HEADERS);
-    let answer = ran.answer;
-    answer
+    ask(&mut connection, wish, &mut request)?;
+    let mut packet = header_with(wish.ttl, request);
+    write_checksum(&mut packet)?;
+    run(&mut connection, &mut packet, row, ceiling, TRANSPORT)
 }
 
 // ---- the input
@@ -168,66 +136,57 @@ const RECEIVER: u8 = 4;
 const RECEIVER_LENGTH: usize = 2;
 
 // Whether a whole request record with numbers in range stands at the start.
+#[tactic(auto, unfolding(path_rules::specs::Plan::Records::starts_request))]
 fn starts_request(input: &[u8]) -> bool
     ensures { result ≡ starts_request input.now }
 {
-    if input.len() < REQUEST_LENGTH {
-        return false;
-    }
-    if input[0] != REQUEST {
-        return false;
-    }
-    let code = wide(input[1]);
-    if code == 0 {
-        return false;
-    }
-    if code > TOP_CODE {
-        return false;
-    }
-    input[2] > 0
+    input.len() >= REQUEST_LENGTH
+        && input[0] == REQUEST
+        && in_range(1, u64::from(input[1]), u64::from(TOP_CODE))
+        && input[2] > 0
 }
 
 // Whether a whole receiver record with a ceiling in range stands at a place.
+#[tactic(auto, unfolding(path_rules::specs::Plan::Records::starts_receiver))]
 fn receiver_at(input: &[u8], at: usize) -> bool
     requires { at ≤ length input.now }
     ensures { result ≡ starts_receiver (drop at input.now) }
 {
-    if input.len() - at < RECEIVER_LENGTH {
-        return false;
-    }
-    if input[at] != RECEIVER {
-        return false;
-    }
-    wide(input[at + 1]) <= TOP_CODE
+    input.len() - at >= RECEIVER_LENGTH
+        && input[at] == RECEIVER
+        && u32::from(input[at + 1]) <= TOP_CODE
 }
 
 // The line of an input that spells one run, whose receiver record stands at `end`. Its run is never refused, since all
 // its numbers are in their ranges and the packet is the program's own.
-fn good_line(input: &[u8], end: usize) -> Text
+fn good_line(input: &[u8], end: usize) -> ArrayString<LONGEST_LINE>
     requires { (starts_request input.now ≡ true) × (starts_receiver (drop end input.now) ≡ true) × (end + length (hops_of most_routers input.now).rest ≡ length input.now) × (8 ≤ end) × (end + 2 ≤ length input.now) }
-    ensures text { text_of result ≡ verdict_line (verdict_for (plan_of input.now (hops_of most_routers input.now))) }
-    ensures len { result.len ≤ 16 }
+    ensures { result.bytes ≡ verdict_line (verdict_for (plan_of input.now (hops_of most_routers input.now))) }
 {
-    let code = wide(input[1]);
-    let nonce = nonce_of(input[4], input[5], input[6], input[7]);
-    let ceiling = wide(input[end + 1]);
-    let row = &input[REQUEST_LENGTH..end];
-    match run_path(row, code, input[2], input[3], nonce, ceiling) {
-        VerdictAnswer::Refused(why) => verdict_line(Verdict::NotAccepted(why)),
-        VerdictAnswer::Of(verdict) => verdict_line(verdict),
+    let wish = Wish {
+        code: u32::from(input[1]),
+        ttl: input[2],
+        qs_ttl: input[3],
+        nonce: nonce_of(input[4], input[5], input[6], input[7]),
+        rtt: RTT,
+        time: 0,
+    };
+    let ceiling = u32::from(input[end + 1]);
+    match run_path(&input[REQUEST_LENGTH..end], wish, ceiling) {
+        Err(why) => verdict_line(Verdict::NotAccepted(why)),
+        Ok(verdict) => verdict_line(verdict),
     }
 }
 
 // The line of an input.
-pub fn line(input: &[u8]) -> Text
-    ensures text { text_of result ≡ line_of most_routers input.now }
-    ensures len { result.len ≡ length (line_of most_routers input.now) }
+#[tactic(auto, using(path_rules::proofs::Plan::InputLaws::request_parts, crate::proofs::ReadLaws::surveyed, crate::proofs::ReadLaws::end_near, crate::proofs::ReadLaws::bad_request, crate::proofs::ReadLaws::bad_receiver, crate::proofs::ReadLaws::bad_end, crate::proofs::ReadLaws::good_plan))]
+pub fn line(input: &[u8]) -> ArrayString<LONGEST_LINE>
+    ensures { result.bytes ≡ line_of most_routers input.now }
 {
     if !starts_request(input) {
         return bad_line(0);
     }
-    let found = survey(&input[REQUEST_LENGTH..]);
-    let end = REQUEST_LENGTH + found.end;
+    let end = REQUEST_LENGTH + survey(&input[REQUEST_LENGTH..]).end;
     if !receiver_at(input, end) {
         return bad_line(end);
     }

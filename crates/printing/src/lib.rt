@@ -1,58 +1,55 @@
-// What the programs that run cases print with: text, numbers, bytes and refusals on standard output.
+// What the programs that run cases print: rows of bytes and numbers, and what a call answered.
 #![tactic(auto)]
 
 use refusals::Refusal;
-use std::io;
-use std::io::Write;
-
-pub fn say(rt: &impl Print, text: &[u8]) -> io::Result<()> {
-    io::writer(rt).write_all(text)
-}
-
-// A number, with a space before it.
-pub fn number(rt: &impl Print, n: u64) -> io::Result<()> {
-    print!(rt; " {n}")
-}
-
-// The end of a line with a number for the answer.
-pub fn answer(rt: &impl Print, n: u64) -> io::Result<()> {
-    number(rt, n)?;
-    say(rt, b"\n")
-}
-
-// The end of a line with a refusal.
-pub fn refused(rt: &impl Print, why: Refusal) -> io::Result<()> {
-    say(rt, b" refused")?;
-    answer(rt, why.number() as u64)
-}
-
-fn byte(rt: &impl Print, b: u8) -> io::Result<()> {
-    print!(rt; " {b:02x}")
-}
+use std::fmt;
+use std::fmt::Display;
 
 // Each byte as two digits, with a space before it.
-pub fn bytes(rt: &impl Print, part: &[u8]) -> io::Result<()> {
-    let mut i = 0;
-    while i < part.len() {
-        byte(rt, part[i])?;
-        i += 1;
+#[derive(Drop)]
+pub struct Bytes<'a>(pub &'a [u8]);
+
+impl Display for Bytes<'_> {
+    fn fmt<W: fmt::Write>(&self, f: &mut fmt::Formatter<W>) -> fmt::Result {
+        for byte in self.0 {
+            write!(f, " {byte:02x}")?;
+        }
+        Ok(())
     }
-    Ok(())
 }
 
 // Each number, with a space before it.
-pub fn numbers(rt: &impl Print, row: &[u64]) -> io::Result<()> {
-    let mut i = 0;
-    while i < row.len() {
-        number(rt, row[i])?;
-        i += 1;
+#[derive(Drop)]
+pub struct Numbers<'a>(pub &'a [u64]);
+
+impl Display for Numbers<'_> {
+    fn fmt<W: fmt::Write>(&self, f: &mut fmt::Formatter<W>) -> fmt::Result {
+        for n in self.0 {
+            write!(f, " {n}")?;
+        }
+        Ok(())
     }
-    Ok(())
 }
 
-// The start of a line: the name of what it is about, and what it tells of it.
-pub fn start(rt: &impl Print, name: &[u8], what: &[u8]) -> io::Result<()> {
-    say(rt, name)?;
-    say(rt, b": ")?;
-    say(rt, what)
+// A refusal by its number.
+#[derive(Drop)]
+pub struct Refused(pub Refusal);
+
+impl Display for Refused {
+    fn fmt<W: fmt::Write>(&self, f: &mut fmt::Formatter<W>) -> fmt::Result {
+        write!(f, "refused {}", self.0.number())
+    }
+}
+
+// What a call answered, or its refusal.
+#[derive(Drop)]
+pub struct Outcome<T>(pub Result<T, Refusal>);
+
+impl<T: Display> Display for Outcome<T> {
+    fn fmt<W: fmt::Write>(&self, f: &mut fmt::Formatter<W>) -> fmt::Result {
+        match &self.0 {
+            Ok(answer) => write!(f, "{answer}"),
+            Err(why) => write!(f, "{}", Refused(*why)),
+        }
+    }
 }

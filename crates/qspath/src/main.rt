@@ -5,9 +5,10 @@
 ghost use Rattle.std.specs.Prelude.{◌≤◌, length, IfOk};
 
 use std::io;
-use std::io::{Read, Write};
+use std::io::Read;
 
-// Reads until the space is full or the input ends, and answers how many bytes it put in front.
+// Reads until the space is full or the input ends, and answers how many bytes it put in front. The library's own calls
+// that read to the end take memory from the heap, so the loop is written out.
 fn read_full(rt: &impl Input, space: &mut [u8]) -> io::Result<usize>
     ensures { IfOk result (λ n. n ≤ length space.new) }
 {
@@ -29,10 +30,7 @@ fn answer(rt: &(impl Input + Print), space: &mut [u8]) -> io::Result<()>
 {
     let room = plan::enough();
     let n = read_full(rt, &mut space[..room])?;
-    let text = plan::line(&space[..n]);
-    let bytes = text.bytes;
-    let len = text.len;
-    io::writer(rt).write_all(&bytes[..len])
+    print!(rt; "{}", plan::line(&space[..n]))
 }
 
 fn main(rt: HostRuntime) -> io::Result<()> {

@@ -1,14 +1,16 @@
 -- Laws of rounding by leading zeros, and of rounding up by rounding down. Assumes nothing.
 use Prim.Native.Nat.{ℕ, zero, suc, ◌-◌, ◌*◌, ◌/◌, ◌^◌, ◌≤◌, ◌<◌, min, zero-le}
 use mathlib.Core.Logic.{⊎_elim}
-use mathlib.Core.Path.{◌≡◌, subst}
+use mathlib.Core.Path.{◌≡◌, refl, ap, subst, ◌∙◌}
+use borrow.Author.Tests.{le-leb}
 use native.Mathlib.Nat.{le_refl, le_trans, lt_irrefl, lt_of_le_of_lt, lt_of_not-le, eq-zero-or-pos, div-le_self, mul-le-mul_left, le-div_iff_mul-le, div-lt_iff_lt-mul, min-le_left, min-le_right}
 use native.Mathlib.Omega.{arith}
 use lib.Count.{count_leading_zeros, leading_top}
 use lib.Dec.{lit<}
 use lib.Pow.{pow_pos, pow_mono}
 use Rattle.common.proofs.Choice.{le_or_gt}
-use Rattle.wire_rules.specs.Rates.Steps.{top_code, rate_of, rounded_down, rounded_up}
+use Rattle.refusals.specs.Reply.{answer}
+use Rattle.wire_rules.specs.Rates.Steps.{top_code, rate_of, rounded_down, rounded_up, rounded_up_reply}
 use Rattle.wire_rules.proofs.Rates.StepLaws.{rate_mono, rate_from, down_rule, down_only, least_only, up_rule}
 
 -- ---- rates
@@ -79,3 +81,10 @@ up_by_down w =
           (le_or_gt d (rounded_down w));
       top = λ g. let k : top_code ≤ rounded_down w = down.greatest top_code (le_refl top_code) (omega arith) in omega arith;
     } (up_rule (suc w) (omega arith))
+
+-- the reply for a wish above 0, from the code rounded down from just below it
+pub up_answer : (wish below code : ℕ) → (wish ≡ 0 → ⊥) → below ≡ rounded_down (wish - 1) → code ≡ min top_code (suc below) → answer code ≡ rounded_up_reply wish
+up_answer zero below code some e m = absurd (some refl)
+up_answer (suc w) below code some e m =
+    let same : code ≡ rounded_up (suc w) = m ∙ ap (λ (k : ℕ). min top_code (suc k)) (e ∙ ap rounded_down (omega arith)) ∙ up_by_down w in
+    simp (le-leb 1 (suc w) (omega arith)) (ap answer same)

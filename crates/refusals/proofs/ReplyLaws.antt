@@ -5,7 +5,16 @@ use mathlib.Core.Logic.{◌⊎◌, inl, inr}
 use mathlib.Core.Path.{◌≡◌, refl, sym, ap, ap₂}
 use Rattle.common.proofs.Choice.{clash}
 use Rattle.common.specs.Choice.{pick}
+use Rattle.std.specs.Prelude.{Result, Ok, Err, IsErr, IsErrAnd}
+use Rattle.refusals.specs.declared.Refusal.{Refusal}
+use Rattle.refusals.specs.Numbers.{number_of}
 use Rattle.refusals.specs.Reply.{Reply, answer, refuse, leaves, done, and_then, Outcome}
+use Rattle.refusals.specs.Replies.{told}
+
+-- what a `?` hands up says the refusal that it met
+pub handed_up : {A : Type 0} (r : Result A Refusal) (why : Refusal) → IsErr r × IsErrAnd r (λ e. e ≡ why) → told r ≡ refuse (number_of why)
+handed_up (Ok a) why h = let e : false ≡ true = h.0 in absurd (clash (cc))
+handed_up (Err e) why h = ap (λ (w : Refusal). refuse (number_of w)) h.1
 
 -- an answer came through the test
 pub passed : {A : Type 0} (t : Bool) (a : A) (x : Reply A) (n : ℕ) → answer a ≡ pick t x (refuse n) → (t ≡ true) × (answer a ≡ x)

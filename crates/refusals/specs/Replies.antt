@@ -1,9 +1,9 @@
--- What the plain answer of a call means: that it was done, or the number of the refusal. Assumes nothing.
-use Rattle.refusals.specs.declared.Answer.{Answer}
-use Rattle.refusals.specs.declared.Answer.TheVariants.{Done, Refused}
+-- What the result of a call says: the papers' value, or the number of the refusal. Assumes nothing.
+use Rattle.std.specs.Prelude.{Result, Ok, Err}
+use Rattle.refusals.specs.declared.Refusal.{Refusal}
 use Rattle.refusals.specs.Numbers.{number_of}
 use Rattle.refusals.specs.Reply.{Reply, answer, refuse}
 
-abbrev pub answer_told : Answer → Reply (Unit {0})
-answer_told Done = answer tt
-answer_told (Refused why) = refuse (number_of why)
+abbrev pub told : {A : Type 0} → Result A Refusal → Reply A
+told (Ok a) = answer a
+told (Err why) = refuse (number_of why)

@@ -1,3 +1,2 @@
 pub mod RouterLaws
 pub mod KeptLaws
-pub mod DecisionLaws

@@ -5,12 +5,10 @@ use Rattle.refusals.specs.Reply.{Reply, answer, refuse, and_then}
 use Rattle.wire_rules.specs.Rates.Steps.{top_code}
 use Rattle.wire_rules.specs.declared.Request.{Request}
 use Rattle.wire_rules.specs.Options.Wire.{option_length, nonce_limit}
-use Rattle.wire_rules.specs.declared.Place.TheVariants.{At}
+use Rattle.std.specs.Prelude.{None, Some}
 use Rattle.wire_rules.specs.Ipv4.Headers.{ip_ttl}
 use Rattle.wire_rules.specs.Ipv4.Views.{View, put_request}
-use Rattle.gateway_rules.specs.declared.Asking.{Asking}
-use Rattle.gateway_rules.specs.declared.Asking.TheVariants.{Nothing, For}
-use Rattle.gateway_rules.specs.Inspect.Sights.{sighted, request_of}
+use Rattle.gateway_rules.specs.Inspect.Sights.{sighted, request_of, Asking}
 use Rattle.gateway_rules.specs.Router.Decisions.{decided, written_by}
 
 -- a packet that can be passed on, by what it asks for: 1, 2, 3, 5, then 6
@@ -28,10 +26,10 @@ pub record Readable (place : ℕ) (r : Request) (bytes : ℕ) : Type 0 where
   pub nonce_fits : r.nonce < nonce_limit
 
 abbrev pub ReadableWhere : Asking → ℕ → Type 0
-ReadableWhere Nothing bytes = Unit {0}
-ReadableWhere (For place r) bytes = Readable place r bytes
+ReadableWhere None bytes = Unit {0}
+ReadableWhere (Some (place, r)) bytes = Readable place r bytes
 
 -- the decision written into the option
 abbrev pub decision_written : ℕ → ℕ → Asking → List ℕ → List ℕ
-decision_written ceiling fresh Nothing packet = packet
-decision_written ceiling fresh (For place r) packet = put_request (At place) (written_by (decided ceiling fresh r)) packet
+decision_written ceiling fresh None packet = packet
+decision_written ceiling fresh (Some (place, r)) packet = put_request (Some place) (written_by (decided ceiling fresh r)) packet

@@ -1,2 +1,1 @@
-pub mod GatherLaws
-pub mod ResultLaws
+pub mod SpellLaws

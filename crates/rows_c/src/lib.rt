@@ -1,5 +1,6 @@
 // The functions exported to C for a path lent as a row of hop records: each calls the function of its name in the crate
-// `rows`, and has its contract. include/quickstart_path.h tells a caller in C what each does.
+// `rows`, and has its contract. They stand twice for the C interface alone. include/quickstart_path.h tells a caller in C
+// what each does.
 #![tactic(auto)]
 
 ghost use Rattle.std.specs.Prelude.{◌≡◌};

@@ -3,13 +3,12 @@
 
 ghost use Rattle.std.specs.Prelude.{◌≡◌, ◌<◌, length};
 ghost use Rattle.wire_rules.specs.Walk.Walks.{look, walk};
-ghost use Rattle.walk.specs.Parts.{place_of, is_found, offset_of};
-ghost use Rattle.walk.specs.Replies.{step_told, finding_told};
+ghost use Rattle.walk.specs.Parts.{next_told};
+ghost use Rattle.refusals.specs.Replies.{told};
 
 use options::OPTION_LENGTH;
 use options::request::REQUEST;
 use refusals::Refusal;
-use wire_rules::Place;
 
 // The two options of a single byte: the end of the area, and one that is only there to fill it.
 const END: u8 = 0;
@@ -19,113 +18,66 @@ const NO_OPERATION: u8 = 1;
 // The least length byte: it counts the type and itself.
 const LEAST_LENGTH: usize = 2;
 
+// An option that the walk goes past: what has been found up to its end, and its length.
 #[derive(Clone, Copy)]
-pub enum Finding {
-    Found(Place),
-    Refused(Refusal),
-}
-
-// What one option means for the walk: it ends here, it is faulty, or it goes on past the option, with
-// what has been found so far.
-#[derive(Drop)]
-enum Step {
-    End,
-    Fault(Refusal),
-    Past { place: Place, length: usize },
+struct Past {
+    place: Option<usize>,
+    length: usize,
 }
 
 // Looks at one option: `left` is all that is left of the area, from the option's type on, and `at` is its
-// offset. A bad length is tested before anything that is special to Quick-Start.
-fn look(left: &[u8], at: usize, place: Place) -> Step
+// offset. The walk goes past it, or ends with it. A bad length is tested before anything that is special to Quick-Start.
+#[tactic(auto, using(wire_rules::proofs::Walk::WalkLaws::reads_bad, wire_rules::proofs::Walk::WalkLaws::reads_other, wire_rules::proofs::Walk::WalkLaws::reads_first, wire_rules::proofs::Walk::WalkLaws::reads_second, wire_rules::proofs::Walk::WalkLaws::reads_wrong, wire_rules::proofs::Walk::WalkLaws::in_fit, wire_rules::proofs::Walk::WalkLaws::no_fit), unfolding(wire_rules::specs::Walk::Walks::look))]
+fn look(left: &[u8], at: usize, place: Option<usize>) -> Result<Option<Past>, Refusal>
     requires { 0 < length left.now }
-    ensures { step_told result ≡ look place at left.now }
+    ensures { next_told result ≡ look place at left.now }
 {
     let kind = left[0];
     if kind == END {
-        return Step::End;
+        return Ok(None);
     }
     if kind == NO_OPERATION {
-        return Step::Past { place, length: 1 };
+        return Ok(Some(Past { place, length: 1 }));
     }
     if left.len() < LEAST_LENGTH {
-        return Step::Fault(Refusal::OptionLength);
+        return Err(Refusal::OptionLength);
     }
     let length = left[1] as usize;
-    if length < LEAST_LENGTH {
-        return Step::Fault(Refusal::OptionLength);
-    }
-    if length > left.len() {
-        return Step::Fault(Refusal::OptionLength);
+    if length < LEAST_LENGTH || length > left.len() {
+        return Err(Refusal::OptionLength);
     }
     if kind != REQUEST {
-        return Step::Past { place, length };
+        return Ok(Some(Past { place, length }));
     }
-    if length != OPTION_LENGTH {
-        return Step::Fault(Refusal::QuickStartOption);
+    if length != OPTION_LENGTH || place.is_some() {
+        return Err(Refusal::QuickStartOption);
     }
-    match place {
-        Place::Nowhere => Step::Past {
-            place: Place::At(at),
-            length,
-        },
-        Place::At(_) => Step::Fault(Refusal::QuickStartOption),
-    }
+    Ok(Some(Past {
+        place: Some(at),
+        length,
+    }))
 }
 
-// A place, by whether there is one, and its offset where there is.
-fn place_of(found: bool, offset: usize) -> Place
-    ensures { result ≡ place_of found offset }
+// Walks an options area from its first byte to its end, a fault or its last byte.
+#[tactic(auto, using(crate::proofs::WalkLaws::at_last, crate::proofs::WalkLaws::at_end, crate::proofs::WalkLaws::at_fault, crate::proofs::WalkLaws::at_past, common::proofs::Lists::take_rest))]
+pub fn find(area: &[u8]) -> Result<Option<usize>, Refusal>
+    ensures { told result ≡ walk area.now }
 {
-    if found {
-        return Place::At(offset);
-    }
-    Place::Nowhere
-}
-
-fn is_found(place: Place) -> bool
-    ensures { result ≡ is_found place }
-{
-    match place {
-        Place::Nowhere => false,
-        Place::At(_) => true,
-    }
-}
-
-// The offset of a place, and 0 where there is none.
-fn offset_of(place: Place) -> usize
-    ensures { result ≡ offset_of place }
-{
-    match place {
-        Place::Nowhere => 0,
-        Place::At(offset) => offset,
-    }
-}
-
-// Walks an options area from its first byte to its end, a fault or its last byte. What has been found is kept
-// in a flag and an offset from option to option: carried as a `Place` it would take two copies of its
-// padding for each option.
-pub fn find(area: &[u8]) -> Finding
-    ensures { finding_told result ≡ walk area.now }
-{
-    let mut found = false;
-    let mut offset = 0;
+    let mut place = None;
     let mut at = 0;
+    // An option says itself where the next one begins, so there is nothing to iterate over; and document 01 wants a loop
+    // that breaks with its finding, or leaves by its label at a fault.
     'walk: loop {
-        let place = place_of(found, offset);
         if at >= area.len() {
-            break Finding::Found(place);
+            break Ok(place);
         }
         match look(&area[at..], at, place) {
-            Step::End => break Finding::Found(place),
-            Step::Fault(why) => break 'walk Finding::Refused(why),
-            Step::Past {
-                place: now_at,
-                length,
-            } => {
-                found = is_found(now_at);
-                offset = offset_of(now_at);
-                at += length;
+            Ok(None) => break Ok(place),
+            Ok(Some(past)) => {
+                place = past.place;
+                at += past.length;
             }
+            Err(why) => break 'walk Err(why),
         }
     }
 }

@@ -4,28 +4,38 @@
 // that keep these rules stand in the crates rates, options, nonce, walk and ipv4.
 #![tactic(auto)]
 
+// ---- rates
+
+// What a window is worked out with: the round trip in microseconds, and the bytes of a segment and of its headers.
+#[derive(Clone, Copy, Debug, PartialEq, Eq)]
+pub struct Transport {
+    pub rtt: u64,
+    pub mss: u64,
+    pub headers: u64,
+}
+
 // ---- options
 
-#[derive(Clone, Copy)]
+#[derive(Clone, Copy, Debug, PartialEq, Eq)]
 pub struct Request {
     pub rate: u32,
     pub qs_ttl: u8,
     pub nonce: u32,
 }
 
-#[derive(Clone, Copy)]
+#[derive(Clone, Copy, Debug, PartialEq, Eq)]
 pub struct Response {
     pub rate: u32,
     pub ttl_diff: u8,
     pub nonce: u32,
 }
 
-// ---- walk
+// ---- ipv4
 
-// Where a Quick-Start option stands, by the offset of its type: in the options area as `walk::find` answers, in
-// the packet as `ipv4::locate` does.
-#[derive(Clone, Copy)]
-pub enum Place {
-    Nowhere,
-    At(usize),
+// What marking a packet decides.
+#[derive(Clone, Copy, Debug, PartialEq, Eq)]
+pub enum Marking {
+    Marked,
+    // The transport is not ECN-capable: the packet is to be dropped in place of being marked.
+    Dropped,
 }

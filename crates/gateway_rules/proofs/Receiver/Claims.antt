@@ -3,7 +3,8 @@ use Prim.Native.Nat.{ℕ, ◌+◌, ◌/◌, ◌≤◌, ◌<◌, min}
 use mathlib.Core.Bool.{Bool, true, false}
 use mathlib.Core.List.{List}
 use mathlib.Core.Logic.{◌⊎◌, inl, inr, ⊎_elim}
-use mathlib.Core.Option.{Option, none, some}
+use Rattle.std.specs.Prelude.{Option, None, Some}
+use Rattle.wire_rules.specs.Walk.Walks.{Place}
 use mathlib.Core.Path.{◌≡◌, refl, sym, ap, ap₂, subst, ◌∙◌}
 use native.Mathlib.Omega.{arith}
 use lib.Dec.{leb, eqb}
@@ -20,8 +21,6 @@ use Rattle.wire_rules.specs.declared.Response.{Response}
 use Rattle.wire_rules.specs.Options.Wire.{option_length, nonce_limit, high_half, reserved_in}
 use Rattle.wire_rules.specs.Options.Responses.{ttl_diff, response_read, response_written}
 use Rattle.wire_rules.proofs.Options.Claims.{response_round_trip, ttl_diffs}
-use Rattle.wire_rules.specs.declared.Place.{Place}
-use Rattle.wire_rules.specs.declared.Place.TheVariants.{Nowhere, At}
 use Rattle.wire_rules.specs.Ipv4.Packets.{located}
 use Rattle.wire_rules.specs.Ipv4.Views.{View, view}
 use Rattle.wire_rules.specs.Ipv4.Claims.{RequestFits}
@@ -74,8 +73,8 @@ reports_only ceiling ttl r response t q a =
     ∙ ap (λ (n : ℕ). record { rate = min r.rate ceiling; ttl_diff = ttl_diff ttl r.qs_ttl; nonce = n }) a.nonce_is
 
 -- a request that was viewed was read from bytes
-read_fits : (reach ttl : ℕ) (packet : List ℕ) (r : Request) → Bytes packet → view reach packet ≡ answer (record { ttl = ttl; request = some r }) → (ttl < 256) × RequestFits r
-read_fits reach ttl packet r b e = let f = viewing.fits reach packet (record { ttl = ttl; request = some r }) b e in (f.ttl_small, f.request_fits)
+read_fits : (reach ttl : ℕ) (packet : List ℕ) (r : Request) → Bytes packet → view reach packet ≡ answer (record { ttl = ttl; request = Some r }) → (ttl < 256) × RequestFits r
+read_fits reach ttl packet r b e = let f = viewing.fits reach packet (record { ttl = ttl; request = Some r }) b e in (f.ttl_small, f.request_fits)
 
 receiving : Receiving received
 receiving = record {
@@ -109,8 +108,8 @@ reported_by reach ceiling room packet response b e =
   where
     go : Given ceiling room → (ttl : ℕ) (x : Option Request) → view reach packet ≡ answer (record { ttl = ttl; request = x }) → report_reply ceiling ttl x ≡ answer (reported response)
         → ReportedBy reach ceiling room packet response
-    go g ttl none v a = absurd (clash (cc))
-    go g ttl (some r) v a =
+    go g ttl None v a = absurd (clash (cc))
+    go g ttl (Some r) v a =
         let f = (read_fits reach ttl packet r b v).1 in
         let rate = f.rate_fits in
         ⊎_elim
@@ -151,7 +150,7 @@ module _ (receiver : Receiver) (c : Receiving receiver) (reach ceiling room : �
   abbrev Same : Type 0
   Same = receiver reach ceiling room packet ≡ received reach ceiling room packet
 
-  same_request : Given ceiling room → (ttl : ℕ) (r : Request) → view reach packet ≡ answer (record { ttl = ttl; request = some r }) → Same
+  same_request : Given ceiling room → (ttl : ℕ) (r : Request) → view reach packet ≡ answer (record { ttl = ttl; request = Some r }) → Same
   same_request g ttl r v = ⊎_elim (λ (z : r.rate ≤ 0). quiet (inl (omega arith))) (λ (h : 0 < r.rate). ⊎_elim (λ (z : ceiling ≤ 0). quiet (inr (omega arith))) (λ (k : 0 < ceiling). loud h k) (le_or_gt ceiling 0)) (le_or_gt r.rate 0)
     where
       quiet : (r.rate ≡ 0) ⊎ (ceiling ≡ 0) → Same
@@ -168,8 +167,8 @@ module _ (receiver : Receiver) (c : Receiving receiver) (reach ceiling room : �
 
   same_place : Given ceiling room → (place : Reply Place) → located reach packet ≡ place → Same
   same_place g (refuse n) e = c.faulty reach ceiling room n packet g e ∙ sym (receiving.faulty reach ceiling room n packet g e)
-  same_place g (answer Nowhere) e = c.no_option reach ceiling room packet g e ∙ sym (receiving.no_option reach ceiling room packet g e)
-  same_place g (answer (At o)) e = by_function (eqb (get_or packet (o + 2) 0 / 16) 0) refl
+  same_place g (answer None) e = c.no_option reach ceiling room packet g e ∙ sym (receiving.no_option reach ceiling room packet g e)
+  same_place g (answer (Some o)) e = by_function (eqb (get_or packet (o + 2) 0 / 16) 0) refl
     where
       by_function : (t : Bool) → eqb (get_or packet (o + 2) 0 / 16) 0 ≡ t → Same
       by_function true z = same_request g _ _ (viewing.shows reach o packet e (eqb-true (get_or packet (o + 2) 0 / 16) 0 z))

@@ -2,7 +2,7 @@
 use Prim.Native.Nat.{ℕ, zero, suc, ◌≤◌, ◌<◌}
 use mathlib.Core.Bool.{Bool, true, false, ◌&&◌}
 use mathlib.Core.List.{List}
-use mathlib.Core.Option.{Option, none, some}
+use Rattle.std.specs.Prelude.{Option, None, Some}
 use mathlib.Core.Path.{◌≡◌, refl, sym, ap, ◌∙◌}
 use native.Mathlib.Omega.{arith}
 use borrow.Author.Tests.{leb-false}
@@ -38,8 +38,8 @@ asked_for_lem ceiling tick zero link n = absurd (n refl)
 asked_for_lem ceiling tick (suc wish) link n = refl
 
 pub wish_low : (ceiling : ℕ) (x : Option Request) → wish_of ceiling x ≤ ceiling
-wish_low ceiling none = omega arith
-wish_low ceiling (some r) = omega arith
+wish_low ceiling None = omega arith
+wish_low ceiling (Some r) = omega arith
 
 pub record RoutedBy (reach ceiling fresh : ℕ) (packet new : List ℕ) : Type 0 where
   pub ok : router_in_range ceiling fresh ≡ true

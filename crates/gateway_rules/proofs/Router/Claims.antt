@@ -12,7 +12,7 @@ use Rattle.wire_rules.specs.Rates.Steps.{rate_of, greatest_up_to}
 use Rattle.wire_rules.specs.Options.Wire.{fields_fit, option_bytes, word_of}
 use Rattle.wire_rules.specs.Options.Requests.{is_request}
 use Rattle.wire_rules.specs.Options.Nonces.{lowered}
-use Rattle.wire_rules.specs.declared.Place.TheVariants.{At}
+use Rattle.std.specs.Prelude.{Some}
 use Rattle.wire_rules.specs.Walk.Walks.{length_fits, look, walk_on}
 use Rattle.wire_rules.specs.Ipv4.Headers.{header_length}
 use Rattle.wire_rules.specs.Ipv4.Checksums.{ones_add, ones_sum, with_checksum, checksum_of, sealed}
@@ -82,7 +82,7 @@ given_packet = 71 ∷ 0 ∷ 0 ∷ 28 ∷ 0 ∷ 0 ∷ 0 ∷ 0 ∷ 64 ∷ 6 ∷ 70
 packet_bytes : Bytes given_packet
 packet_bytes = bytes_tested given_packet refl
 
-packet_located : located 28 given_packet ≡ answer (At 20)
+packet_located : located 28 given_packet ≡ answer (Some 20)
 unfolding well_formed within header_length ones_sum ones_add walk_on look length_fits
 packet_located = refl
 
@@ -91,7 +91,7 @@ zeros_given : Given 0 0
 zeros_given = record { ceiling_high = omega arith; fresh_high = omega arith }
 
 not_touched : touching_nothing 28 0 0 given_packet ≡ answer given_packet
-not_touched = ap (λ (r : Reply (List ℕ)). and_then r (λ new. answer given_packet)) (testing.accepted 28 0 0 given_packet (At 20) zeros_given packet_located (omega arith)).1
+not_touched = ap (λ (r : Reply (List ℕ)). and_then r (λ new. answer given_packet)) (testing.accepted 28 0 0 given_packet (Some 20) zeros_given packet_located (omega arith)).1
 
 packet_carries : Carries 28 given_packet 20 64 (record { rate = 5; qs_ttl = 128; nonce = 0 })
 packet_carries = record { bytes = packet_bytes; located_at = packet_located; viewed = viewing.shows 28 20 given_packet packet_located refl }
@@ -104,7 +104,7 @@ pub shut_out : ShutOut
 unfolding well_formed within header_length ones_sum ones_add walk_on look length_fits router_in_range link_in_range moved_on passed charged in_last grant_of greatest_up_to rate_of is_request word_of fields_fit option_bytes sealed with_checksum checksum_of decided one_less lowered
 shut_out = record {
   otherwise_ours = refl;
-  touches_nothing = λ claim. let a = (claim.always 28 0 0 given_packet given_packet (At 20) packet_bytes packet_located not_touched).lowered in let e : ◌≡◌ {A = ℕ} 65 64 = a in omega arith;
+  touches_nothing = λ claim. let a = (claim.always 28 0 0 given_packet given_packet (Some 20) packet_bytes packet_located not_touched).lowered in let e : ◌≡◌ {A = ℕ} 65 64 = a in omega arith;
   touches_nothing_hop = λ claim.
       let l = claim.denies 28 0 20 64 given_packet _ zeros_given packet_carries (omega arith) (omega arith) in
       let same : l.new ≡ given_packet = same_answer (sym l.replied ∙ not_touched) in

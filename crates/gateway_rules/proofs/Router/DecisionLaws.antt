@@ -1,7 +1,7 @@
 -- Laws of a decision: which it is, by the rate and the ceiling, and that what it writes are numbers that can be written. Assumes nothing.
 use Prim.Native.Nat.{ℕ, ◌≤◌, ◌<◌, min}
 use mathlib.Core.Bool.{true}
-use mathlib.Core.Option.{Option, none, some}
+use Rattle.std.specs.Prelude.{Option, None, Some}
 use mathlib.Core.Path.{◌≡◌, refl, sym}
 use native.Mathlib.Omega.{arith}
 use lib.Dec.{eqb, leb, ltb}
@@ -64,22 +64,22 @@ decided_fits ceiling fresh r f =
       nonce_fits = lowering.in_range_lem r.rate (min r.rate ceiling) r.nonce fresh f.rate_fits f.nonce_fits;
     }))
 
-over_asks : (new : Option Request) (r : Request) → asks (over new (some r)) ≡ true
-over_asks none r = refl
-over_asks (some q) r = refl
+over_asks : (new : Option Request) (r : Request) → asks (over new (Some r)) ≡ true
+over_asks None r = refl
+over_asks (Some q) r = refl
 
 -- a packet that asks goes on asking, and one that does not does not begin to
 pub asks_kept : (ceiling fresh : ℕ) (x : Option Request) → asks x ≡ asks (request_after ceiling fresh x)
-asks_kept ceiling fresh none = refl
-asks_kept ceiling fresh (some r) = sym (over_asks (written_by (decided ceiling fresh r)) r)
+asks_kept ceiling fresh None = refl
+asks_kept ceiling fresh (Some r) = sym (over_asks (written_by (decided ceiling fresh r)) r)
 
 over_fits : (new old : Option Request) → FitsWhere new → FitsWhere old → FitsWhere (over new old)
-over_fits none old n o = o
-over_fits (some r) old n o = n
+over_fits None old n o = o
+over_fits (Some r) old n o = n
 
 pub after_fits : (ceiling fresh : ℕ) (x : Option Request) → FitsWhere x → FitsWhere (request_after ceiling fresh x)
-after_fits ceiling fresh none f = tt
-after_fits ceiling fresh (some r) f = over_fits (written_by (decided ceiling fresh r)) (some r) (decided_fits ceiling fresh r f) f
+after_fits ceiling fresh None f = tt
+after_fits ceiling fresh (Some r) f = over_fits (written_by (decided ceiling fresh r)) (Some r) (decided_fits ceiling fresh r f) f
 
 pub routed_fits : (ceiling fresh : ℕ) (v : View) → Fits v → Fits (routed_view ceiling fresh v)
 routed_fits ceiling fresh v f = record { ttl_small = let h = f.ttl_small in omega arith; request_fits = after_fits ceiling fresh v.request f.request_fits }

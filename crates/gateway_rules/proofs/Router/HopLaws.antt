@@ -4,7 +4,8 @@ use Prim.Native.Nat.{ℕ, ◌+◌, ◌-◌, ◌*◌, ◌%◌, ◌≤◌, ◌<◌
 use mathlib.Core.Bool.{true, false}
 use mathlib.Core.List.{List}
 use mathlib.Core.Logic.{inl}
-use mathlib.Core.Option.{Option, none, some}
+use Rattle.std.specs.Prelude.{Option, None, Some}
+use Rattle.wire_rules.specs.Walk.Walks.{Place}
 use mathlib.Core.Path.{◌≡◌, refl, sym, ap, ap₂, subst, ◌∙◌}
 use native.Mathlib.Omega.{arith}
 use borrow.Author.Tests.{le-leb, lt-leb}
@@ -16,8 +17,6 @@ use Rattle.refusals.proofs.ReplyLaws.{same_answer, through}
 use Rattle.wire_rules.specs.declared.Request.{Request}
 use Rattle.wire_rules.specs.Options.Wire.{reserved_in}
 use Rattle.wire_rules.proofs.Options.Claims.{lowering}
-use Rattle.wire_rules.specs.declared.Place.{Place}
-use Rattle.wire_rules.specs.declared.Place.TheVariants.{Nowhere, At}
 use Rattle.wire_rules.specs.Ipv4.Headers.{ttl_place, ip_ttl, header_length}
 use Rattle.wire_rules.specs.Ipv4.Checksums.{sealed}
 use Rattle.wire_rules.specs.Ipv4.Checks.{header_checked}
@@ -71,13 +70,13 @@ pub ttl_shown : (reach : ℕ) (packet : List ℕ) (v : View) → view reach pack
 ttl_shown reach packet v e = sym (ap (λ (x : View). x.ttl) (view_place reach packet v e).2)
 
 outside : (place : Place) (request : Option Request) (i : ℕ) → OutsideOption place i → OutsideRequest place request i
-outside Nowhere request i o = tt
-outside (At p) none i o = tt
-outside (At p) (some r) i o = o
+outside None request i o = tt
+outside (Some p) None i o = tt
+outside (Some p) (Some r) i o = o
 
 low_outside : (reach : ℕ) (packet : List ℕ) (place : Place) → located reach packet ≡ answer place → OutsideOption place 0
-low_outside reach packet Nowhere e = tt
-low_outside reach packet (At p) e = inl (omega arith)
+low_outside reach packet None e = tt
+low_outside reach packet (Some p) e = inl (omega arith)
 
 -- a view whose IP TTL is one lower, put into a packet without fault
 pub changed_passed : (reach : ℕ) (packet : List ℕ) (place : Place) (old new : View) → located reach packet ≡ answer place → view reach packet ≡ answer old → 1 < old.ttl
@@ -111,11 +110,11 @@ routed_passed reach ceiling fresh packet new place b l e =
     subst (λ (q : List ℕ). PassedOn reach packet q (OutsideOption place)) (sym r.is)
     (changed_passed reach packet place r.seen (routed_view ceiling fresh r.seen) l r.viewed r.lives refl (routed_changed reach ceiling fresh packet place r.seen b l r.viewed))
 
-pub routed_reserved : (reach ceiling fresh place : ℕ) (packet new : List ℕ) → Bytes packet → located reach packet ≡ answer (At place) → routed reach ceiling fresh packet ≡ answer new
+pub routed_reserved : (reach ceiling fresh place : ℕ) (packet new : List ℕ) → Bytes packet → located reach packet ≡ answer (Some place) → routed reach ceiling fresh packet ≡ answer new
     → reserved_in (option_at place new) ≡ reserved_in (option_at place packet)
 routed_reserved reach ceiling fresh place packet new b l e =
     let r = routed_by reach ceiling fresh packet new e in
-    ap (λ (q : List ℕ). reserved_in (option_at place q)) r.is ∙ (routed_changed reach ceiling fresh packet (At place) r.seen b l r.viewed).reserved place refl
+    ap (λ (q : List ℕ). reserved_in (option_at place q)) r.is ∙ (routed_changed reach ceiling fresh packet (Some place) r.seen b l r.viewed).reserved place refl
 
 -- ---- a silent router
 
@@ -145,8 +144,8 @@ silent_accepted reach h packet e l = (_, forwarding.forwarded_by reach h packet 
 -- ---- where there is nothing to decide
 
 pub nothing_after : (ceiling fresh : ℕ) (x : Option Request) → AsksNothing x → request_after ceiling fresh x ≡ x
-nothing_after ceiling fresh none a = refl
-nothing_after ceiling fresh (some r) a = ap (λ (d : Decision). over (written_by d) (some r)) (sym (nothing_decided ceiling fresh r a))
+nothing_after ceiling fresh None a = refl
+nothing_after ceiling fresh (Some r) a = ap (λ (d : Decision). over (written_by d) (Some r)) (sym (nothing_decided ceiling fresh r a))
 
 pub untouched_passed : (reach ceiling fresh : ℕ) (packet new : List ℕ) (v : View) → Bytes packet → view reach packet ≡ answer v → AsksNothing v.request
     → routed reach ceiling fresh packet ≡ answer new → PassedOn reach packet new Anywhere
@@ -164,32 +163,32 @@ untouched_passed reach ceiling fresh packet new v b e a r =
 
 module _ (reach place ttl : ℕ) (packet : List ℕ) (r : Request) (c : Carries reach packet place ttl r) (lives : 1 < ttl) where
   abbrev seen : View
-  seen = record { ttl = ttl; request = some r }
+  seen = record { ttl = ttl; request = Some r }
 
   -- four numbers put into a packet that carries a request
-  left_by : (q : Request) (reply : Reply (List ℕ)) → reply ≡ answer (put packet (record { ttl = ttl - 1; request = some q }))
-      → Changed reach packet (At place) (record { ttl = ttl - 1; request = some q }) → Leaves reach packet place (ttl - 1) q reply
+  left_by : (q : Request) (reply : Reply (List ℕ)) → reply ≡ answer (put packet (record { ttl = ttl - 1; request = Some q }))
+      → Changed reach packet (Some place) (record { ttl = ttl - 1; request = Some q }) → Leaves reach packet place (ttl - 1) q reply
   left_by q reply e changed = record {
-    new = put packet (record { ttl = ttl - 1; request = some q });
+    new = put packet (record { ttl = ttl - 1; request = Some q });
     replied = e;
     carries = record { bytes = changed.bytes; located_at = changed.located_still; viewed = changed.viewed };
     long = changed.long;
   }
 
   -- the request after a router's decision is what its packet carries
-  pub hop : (ceiling fresh : ℕ) (q : Request) → Given ceiling fresh → request_after ceiling fresh (some r) ≡ some q
+  pub hop : (ceiling fresh : ℕ) (q : Request) → Given ceiling fresh → request_after ceiling fresh (Some r) ≡ Some q
       → Leaves reach packet place (ttl - 1) q (routed reach ceiling fresh packet)
   hop ceiling fresh q g e =
-      let is : routed_view ceiling fresh seen ≡ record { ttl = ttl - 1; request = some q } = ap (λ (x : Option Request). record { ttl = ttl - 1; request = x }) e in
+      let is : routed_view ceiling fresh seen ≡ record { ttl = ttl - 1; request = Some q } = ap (λ (x : Option Request). record { ttl = ttl - 1; request = x }) e in
       left_by q (routed reach ceiling fresh packet) (routed_view_lem reach ceiling fresh packet g seen c.viewed lives ∙ ap (λ (v : View). answer (put packet v)) is)
-      (subst (Changed reach packet (At place)) is (routed_changed reach ceiling fresh packet (At place) seen c.bytes c.located_at c.viewed))
+      (subst (Changed reach packet (Some place)) is (routed_changed reach ceiling fresh packet (Some place) seen c.bytes c.located_at c.viewed))
 
   pub silent_hop_lem : Leaves reach packet place (ttl - 1) r (silently_routed reach packet)
   silent_hop_lem =
       let f = viewing.fits reach packet seen c.bytes c.viewed in
       let small = f.ttl_small in
       left_by r (silently_routed reach packet) (forwarding.puts_back reach packet seen c.bytes c.viewed lives)
-      (viewing.changes reach packet (At place) seen (record { ttl = ttl - 1; request = some r }) c.bytes c.located_at c.viewed
+      (viewing.changes reach packet (Some place) seen (record { ttl = ttl - 1; request = Some r }) c.bytes c.located_at c.viewed
       (record { ttl_small = omega arith; request_fits = f.request_fits }) refl)
 
 -- which request that is

@@ -3,7 +3,8 @@ use Prim.Native.Nat.{ℕ, ◌-◌, ◌≤◌, ◌<◌, min}
 use mathlib.Core.Bool.{Bool, true, false, ◌&&◌}
 use mathlib.Core.List.{List}
 use mathlib.Core.Logic.{◌⊎◌, inl, inr, ⊎_elim}
-use mathlib.Core.Option.{Option, none, some}
+use Rattle.std.specs.Prelude.{Option, None, Some}
+use Rattle.wire_rules.specs.Walk.Walks.{Place}
 use mathlib.Core.Path.{◌≡◌, refl, sym, ap, ◌∙◌}
 use native.Mathlib.Omega.{arith}
 use borrow.Author.Tests.{le-leb, lt-leb}
@@ -12,7 +13,6 @@ use Rattle.common.proofs.Choice.{clash, chosen, both_true, le_or_gt}
 use Rattle.refusals.specs.Reply.{Reply, answer, refuse, and_then}
 use Rattle.refusals.proofs.ReplyLaws.{same_answer}
 use Rattle.wire_rules.specs.declared.Request.{Request}
-use Rattle.wire_rules.specs.declared.Place.{Place}
 use Rattle.wire_rules.specs.Ipv4.Packets.{located}
 use Rattle.wire_rules.specs.Ipv4.Views.{View, request_at, view, put}
 use Rattle.wire_rules.proofs.Ipv4.OptionLaws.{viewed_by}
@@ -71,9 +71,9 @@ module _ (ceiling fresh : ℕ) (p : Passage) where
           }
 
 no_wish : (ceiling : ℕ) (x : Option Request) → AsksNoLedger ceiling x → wish_of ceiling x ≡ 0
-no_wish ceiling none a = refl
-no_wish ceiling (some r) (inl z) = omega arith
-no_wish ceiling (some r) (inr z) = omega arith
+no_wish ceiling None a = refl
+no_wish ceiling (Some r) (inl z) = omega arith
+no_wish ceiling (Some r) (inr z) = omega arith
 
 pub ledger_routing : LedgerRouting routed_by_ledger
 ledger_routing = record {
@@ -81,9 +81,9 @@ ledger_routing = record {
   faulty = λ reach ceiling fresh tick n p g e. by_view ceiling fresh p reach tick g (refuse n) (viewing.refused reach n p.packet e);
   six = λ reach ceiling fresh tick p place g l h. ledger_six ceiling fresh p reach tick g _ (viewed_by reach p.packet place l) h;
   not_granted = λ reach ceiling fresh tick ttl n p r g e h k l a.
-      by_grant ceiling fresh p reach tick g (record { ttl = ttl; request = some r }) e h (refuse n) (asked_for_lem ceiling tick (min r.rate ceiling) p.link (λ z. absurd (omega arith)) ∙ a);
+      by_grant ceiling fresh p reach tick g (record { ttl = ttl; request = Some r }) e h (refuse n) (asked_for_lem ceiling tick (min r.rate ceiling) p.link (λ z. absurd (omega arith)) ∙ a);
   granted = λ reach ceiling fresh tick ttl p r h g e lives k l a.
-      at_grant ceiling fresh p reach tick g (record { ttl = ttl; request = some r }) e lives h (asked_for_lem ceiling tick (min r.rate ceiling) p.link (λ z. absurd (omega arith)) ∙ a);
+      at_grant ceiling fresh p reach tick g (record { ttl = ttl; request = Some r }) e lives h (asked_for_lem ceiling tick (min r.rate ceiling) p.link (λ z. absurd (omega arith)) ∙ a);
   not_asked = λ reach ceiling fresh tick p v g e h a.
       at_grant ceiling fresh p reach tick g v e h (record { code = ceiling; link = p.link }) (ap (ceiling_from ceiling p.link tick) (no_wish ceiling v.request a));
 }
@@ -98,7 +98,7 @@ module _ (router : ℕ → ℕ → ℕ → ℕ → Passage → Reply Passage) (c
   both_at code link one other a b = a.replied ∙ ap (λ (l : List ℕ). answer (passage l link)) (same_answer (sym a.as_router ∙ b.as_router)) ∙ sym b.replied
 
   module _ (g : AllGiven ceiling fresh p) where
-    by_asking : (r : Request) (ttl : ℕ) → view reach p.packet ≡ answer (record { ttl = ttl; request = some r }) → 1 < ttl → 1 ≤ r.rate → 1 ≤ ceiling
+    by_asking : (r : Request) (ttl : ℕ) → view reach p.packet ≡ answer (record { ttl = ttl; request = Some r }) → 1 < ttl → 1 ≤ r.rate → 1 ≤ ceiling
         → (grant : Reply Granted) → ask_reply p.link tick (min r.rate ceiling) ≡ grant → Alike
     by_asking r ttl v h k l (refuse n) a =
         c.not_granted reach ceiling fresh tick ttl n p r g v h k l a ∙ sym (ledger_routing.not_granted reach ceiling fresh tick ttl n p r g v h k l a)
@@ -112,13 +112,13 @@ module _ (router : ℕ → ℕ → ℕ → ℕ → Passage → Reply Passage) (c
         (ledger_routing.not_asked reach ceiling fresh tick p v g e h a)
 
     by_request : (ttl : ℕ) (x : Option Request) → view reach p.packet ≡ answer (record { ttl = ttl; request = x }) → 1 < ttl → Alike
-    by_request ttl none e h = unasked (record { ttl = ttl; request = none }) e h (inl tt)
-    by_request ttl (some r) e h =
+    by_request ttl None e h = unasked (record { ttl = ttl; request = None }) e h (inl tt)
+    by_request ttl (Some r) e h =
         ⊎_elim
-        (λ (z : r.rate ≤ 0). unasked (record { ttl = ttl; request = some r }) e h (inl (omega arith)))
+        (λ (z : r.rate ≤ 0). unasked (record { ttl = ttl; request = Some r }) e h (inl (omega arith)))
         (λ (k : 0 < r.rate).
         ⊎_elim
-        (λ (z : ceiling ≤ 0). unasked (record { ttl = ttl; request = some r }) e h (inr (omega arith)))
+        (λ (z : ceiling ≤ 0). unasked (record { ttl = ttl; request = Some r }) e h (inr (omega arith)))
         (λ (l : 0 < ceiling). by_asking r ttl e h k l (ask_reply p.link tick (min r.rate ceiling)) refl)
         (le_or_gt ceiling 0))
         (le_or_gt r.rate 0)

@@ -3,7 +3,8 @@ use Prim.Native.Nat.{ℕ, ◌+◌, ◌-◌, ◌≤◌, ◌<◌, min}
 use mathlib.Core.Bool.{Bool, true, false}
 use mathlib.Core.List.{List}
 use mathlib.Core.Logic.{◌⊎◌, inl, inr, ⊎_elim}
-use mathlib.Core.Option.{Option, none, some}
+use Rattle.std.specs.Prelude.{Option, None, Some}
+use Rattle.wire_rules.specs.Walk.Walks.{Place}
 use mathlib.Core.Path.{◌≡◌, refl, sym, ap, subst, ◌∙◌}
 use native.Mathlib.Omega.{arith}
 use lib.ListN.{get_or}
@@ -13,8 +14,6 @@ use Rattle.refusals.specs.Reply.{Reply, answer, refuse}
 use Rattle.refusals.proofs.ReplyLaws.{same_answer}
 use Rattle.wire_rules.specs.declared.Request.{Request}
 use Rattle.wire_rules.specs.Options.Wire.{reserved_in}
-use Rattle.wire_rules.specs.declared.Place.{Place}
-use Rattle.wire_rules.specs.declared.Place.TheVariants.{Nowhere, At}
 use Rattle.wire_rules.specs.Ipv4.Checks.{header_checked}
 use Rattle.wire_rules.specs.Ipv4.Packets.{located}
 use Rattle.wire_rules.specs.Ipv4.Views.{View, option_at, request_at, view}
@@ -34,9 +33,9 @@ module _ (router : Router) (o : OneHop router) (reach ceiling fresh place ttl : 
     (e : router reach ceiling fresh packet ≡ answer new) where
   -- the request that ours leaves, in the packet of the other
   abbrev Carried : Type 0
-  Carried = (q : Request) × (request_after ceiling fresh (some r) ≡ some q) × Carries reach new place (ttl - 1) q
+  Carried = (q : Request) × (request_after ceiling fresh (Some r) ≡ Some q) × Carries reach new place (ttl - 1) q
 
-  carried_in : (q : Request) → Leaves reach packet place (ttl - 1) q (router reach ceiling fresh packet) → request_after ceiling fresh (some r) ≡ some q → Carried
+  carried_in : (q : Request) → Leaves reach packet place (ttl - 1) q (router reach ceiling fresh packet) → request_after ceiling fresh (Some r) ≡ Some q → Carried
   carried_in q l a = (q, a, subst (λ (k : List ℕ). Carries reach k place (ttl - 1) q) (same_answer (sym l.replied ∙ e)) l.carries)
 
   carried : 1 < ttl → Carried
@@ -51,7 +50,7 @@ module _ (router : Router) (o : OneHop router) (reach ceiling fresh place ttl : 
       with_ceiling k l =
           let a = o.approves reach ceiling fresh place ttl packet r g c h k l in
           carried_in a.0 a.2
-          (after_decided ceiling fresh r (Decisions.Approved (approved_at (min r.rate ceiling) fresh r)) (approved_at_lem ceiling fresh r k l) ∙ ap some (sym (approves_only ceiling fresh r k a.0 a.1)))
+          (after_decided ceiling fresh r (Decisions.Approved (approved_at (min r.rate ceiling) fresh r)) (approved_at_lem ceiling fresh r k l) ∙ ap Some (sym (approves_only ceiling fresh r k a.0 a.1)))
 
       no_ceiling : 1 ≤ r.rate → ceiling ≡ 0 → Carried
       no_ceiling k z =
@@ -89,16 +88,16 @@ module _ (router : Router) (t : Testing router) (s : Passing router) (o : OneHop
       → router reach ceiling fresh packet ≡ answer new → routed reach ceiling fresh packet ≡ answer own → new ≡ own
   decided_alike g place ttl r new own c h e f =
       let l = c.located_at in
-      let x = theirs g (At place) l new own e f in
-      let y = ours_too g (At place) l new own e f in
-      let header = good_header g (At place) l new own e f in
+      let x = theirs g (Some place) l new own e f in
+      let y = ours_too g (Some place) l new own e f in
+      let header = good_header g (Some place) l new own e f in
       let v = carried router o reach ceiling fresh place ttl packet new r g c e h in
       let w = carried routed one_hop reach ceiling fresh place ttl packet own r g c f h in
       let same : w.0 ≡ v.0 = let q = sym w.1 ∙ v.1 in cc in
       let there = subst (λ (q : Request). Carries reach own place (ttl - 1) q) same w.2 in
       let kept : reserved_in (option_at place new) ≡ reserved_in (option_at place own) =
       s.reserved reach ceiling fresh place packet new b l e ∙ sym (passing.reserved reach ceiling fresh place packet own b l f) in
-      same_packet reach packet new own (OutsideOption (At place)) (OutsideOption (At place)) x y header.form_is.long header.header (inl (omega arith)) (inl (omega arith))
+      same_packet reach packet new own (OutsideOption (Some place)) (OutsideOption (Some place)) x y header.form_is.long header.header (inl (omega arith)) (inl (omega arith))
       (λ i n d.
       ⊎_elim
       (λ (high : place + 2 ≤ i).
@@ -115,19 +114,19 @@ module _ (router : Router) (t : Testing router) (s : Passing router) (o : OneHop
 
   accepted_alike : Given ceiling fresh → (place : Place) → located reach packet ≡ answer place → 1 < get_or packet 8 0 → (new own : List ℕ)
       → router reach ceiling fresh packet ≡ answer new → routed reach ceiling fresh packet ≡ answer own → new ≡ own
-  accepted_alike g Nowhere l h new own e f = plain g Nowhere l new own e f _ (viewed_by reach packet Nowhere l) tt
-  accepted_alike g (At place) l h new own e f = by_request (request_at (At place) packet) refl
+  accepted_alike g None l h new own e f = plain g None l new own e f _ (viewed_by reach packet None l) tt
+  accepted_alike g (Some place) l h new own e f = by_request (request_at (Some place) packet) refl
     where
-      by_request : (x : Option Request) → request_at (At place) packet ≡ x → new ≡ own
-      by_request none a =
-          plain g (At place) l new own e f (record { ttl = get_or packet 8 0; request = none })
-          (viewed_by reach packet (At place) l ∙ ap (λ (y : Option Request). answer (record { ttl = get_or packet 8 0; request = y })) a) tt
-      by_request (some r) a =
+      by_request : (x : Option Request) → request_at (Some place) packet ≡ x → new ≡ own
+      by_request None a =
+          plain g (Some place) l new own e f (record { ttl = get_or packet 8 0; request = None })
+          (viewed_by reach packet (Some place) l ∙ ap (λ (y : Option Request). answer (record { ttl = get_or packet 8 0; request = y })) a) tt
+      by_request (Some r) a =
           decided_alike g place (get_or packet 8 0) r new own
           (record {
             bytes = b;
             located_at = l;
-            viewed = viewed_by reach packet (At place) l ∙ ap (λ (y : Option Request). answer (record { ttl = get_or packet 8 0; request = y })) a;
+            viewed = viewed_by reach packet (Some place) l ∙ ap (λ (y : Option Request). answer (record { ttl = get_or packet 8 0; request = y })) a;
           })
           h e f
 

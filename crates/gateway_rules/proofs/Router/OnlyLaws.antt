@@ -4,7 +4,7 @@ use Prim.Native.Nat.{ℕ, suc, ◌+◌, ◌*◌, ◌/◌, ◌%◌, ◌≤◌, �
 use mathlib.Core.Bool.{Bool, true, false}
 use mathlib.Core.List.{List}
 use mathlib.Core.Logic.{◌⊎◌, inl, inr, ⊎_elim}
-use mathlib.Core.Option.{some}
+use Rattle.std.specs.Prelude.{Some}
 use mathlib.Core.Path.{◌≡◌, refl, sym, ap, ◌∙◌}
 use native.Mathlib.Omega.{arith}
 use borrow.Author.Tests.{eqb-true, eqb-false}
@@ -16,7 +16,6 @@ use Rattle.refusals.specs.Reply.{answer}
 use Rattle.refusals.proofs.ReplyLaws.{same_answer}
 use Rattle.wire_rules.specs.declared.Request.{Request}
 use Rattle.wire_rules.specs.Options.Wire.{reserved_in}
-use Rattle.wire_rules.specs.declared.Place.TheVariants.{At}
 use Rattle.wire_rules.specs.Ipv4.Headers.{word_at, header_length}
 use Rattle.wire_rules.specs.Ipv4.Packets.{located}
 use Rattle.wire_rules.specs.Ipv4.Views.{View, option_at, view}
@@ -61,7 +60,7 @@ record Bytewise (place : ℕ) (l : List ℕ) (q : Request) : Type 0 where
   pub ttl_is : get_or l (place + 3) 0 ≡ q.qs_ttl
   pub nonce_is : nonce_at place l ≡ q.nonce
 
-bytewise : (reach place ttl : ℕ) (l : List ℕ) (q : Request) → located reach l ≡ answer (At place) → view reach l ≡ answer (record { ttl = ttl; request = some q }) → Bytewise place l q
+bytewise : (reach place ttl : ℕ) (l : List ℕ) (q : Request) → located reach l ≡ answer (Some place) → view reach l ≡ answer (record { ttl = ttl; request = Some q }) → Bytewise place l q
 bytewise reach place ttl l q e v = by_function (eqb (get_or l (place + 2) 0 / 16) 0) refl
   where
     by_function : (t : Bool) → eqb (get_or l (place + 2) 0 / 16) 0 ≡ t → Bytewise place l q
@@ -74,8 +73,8 @@ bytewise reach place ttl l q e v = by_function (eqb (get_or l (place + 2) 0 / 16
     by_function false z = absurd (clash (let x = ap (λ (x : View). x.request) (same_answer (sym (viewing.shows_other reach place l e (eqb-false (get_or l (place + 2) 0 / 16) 0 z)) ∙ v)) in cc))
 
 -- two options with the same numbers and reserved bits have the same six bytes
-module _ (reach place ttl : ℕ) (new ours : List ℕ) (q : Request) (b : Bytes new) (c : Bytes ours) (e : located reach new ≡ answer (At place)) (f : located reach ours ≡ answer (At place))
-    (v : view reach new ≡ answer (record { ttl = ttl; request = some q })) (w : view reach ours ≡ answer (record { ttl = ttl; request = some q }))
+module _ (reach place ttl : ℕ) (new ours : List ℕ) (q : Request) (b : Bytes new) (c : Bytes ours) (e : located reach new ≡ answer (Some place)) (f : located reach ours ≡ answer (Some place))
+    (v : view reach new ≡ answer (record { ttl = ttl; request = Some q })) (w : view reach ours ≡ answer (record { ttl = ttl; request = Some q }))
     (reserved : reserved_in (option_at place new) ≡ reserved_in (option_at place ours)) where
   abbrev word : List ℕ → ℕ
   word l = word_at l (place + 4) * 65536 + word_at l (place + 6)

@@ -1,10 +1,9 @@
 -- The claims on decisions, refusals, what is left of a packet, and one hop, proved of our routers. Assumes nothing.
 use Prim.Native.Nat.{ℕ, ◌-◌, min}
-use mathlib.Core.Option.{some}
+use Rattle.std.specs.Prelude.{Some}
 use mathlib.Core.Path.{◌≡◌, refl, sym, ap}
 use Rattle.refusals.proofs.ReplyLaws.{through}
 use Rattle.wire_rules.specs.declared.Request.{Request}
-use Rattle.wire_rules.specs.declared.Place.TheVariants.{At}
 use Rattle.wire_rules.specs.Ipv4.Checks.{header_checked}
 use Rattle.wire_rules.specs.Ipv4.Packets.{walked}
 use Rattle.wire_rules.proofs.Ipv4.OptionLaws.{viewed_by}
@@ -42,8 +41,8 @@ silence = record { faulty = silent_faulty; six = silent_six; accepted = silent_a
 -- ---- one hop
 
 -- the request after each decision
-pub after_decided : (ceiling fresh : ℕ) (r : Request) (d : Decision) → decided ceiling fresh r ≡ d → request_after ceiling fresh (some r) ≡ over (written_by d) (some r)
-after_decided ceiling fresh r d e = ap (λ (x : Decision). over (written_by x) (some r)) e
+pub after_decided : (ceiling fresh : ℕ) (r : Request) (d : Decision) → decided ceiling fresh r ≡ d → request_after ceiling fresh (Some r) ≡ over (written_by d) (Some r)
+after_decided ceiling fresh r d e = ap (λ (x : Decision). over (written_by x) (Some r)) e
 
 pub one_hop : OneHop routed
 one_hop = record {
@@ -59,7 +58,7 @@ one_hop = record {
 pub silent_hop : SilentHop
 silent_hop = record {
   expired = λ reach place ttl packet r c h.
-      let checked = through (header_checked reach packet) (λ header. walked packet) (At place) c.located_at in
+      let checked = through (header_checked reach packet) (λ header. walked packet) (Some place) c.located_at in
       silent_six reach checked.0 packet checked.1 (rw (ttl_shown reach packet _ c.viewed) h);
   passes = λ reach place ttl packet r c h. silent_hop_lem reach place ttl packet r c h;
 }

@@ -3,7 +3,7 @@
 use Prim.Native.Nat.{ℕ, zero, suc, ◌+◌, ◌≤◌, min}
 use mathlib.Core.Bool.{Bool, true, false}
 use mathlib.Core.List.{List, [], ◌∷◌, ◌++◌}
-use mathlib.Core.Option.{Option, none, some}
+use Rattle.std.specs.Prelude.{Option, None, Some}
 use mathlib.Core.Path.{◌≡◌, refl, sym, ap, ap₂, subst, ◌∙◌}
 use native.Mathlib.Nat.{zero-add}
 use native.Mathlib.Omega.{arith}
@@ -37,12 +37,12 @@ use Rattle.gateway_rules.proofs.Router.HopLaws.{routed_changed}
 -- the rate that a decision leaves is the lesser of rate and ceiling, whatever it is
 pub code_after : (ceiling fresh : ℕ) (x : Option Request) → code_of (request_after ceiling fresh x) ≡ wish_of ceiling x
 unfolding decided
-code_after ceiling fresh none = refl
-code_after ceiling fresh (some r) =
-    by_test (λ (d : Decision). code_of (over (written_by d) (some r)) ≡ min r.rate ceiling) (eqb r.rate 0)
+code_after ceiling fresh None = refl
+code_after ceiling fresh (Some r) =
+    by_test (λ (d : Decision). code_of (over (written_by d) (Some r)) ≡ min r.rate ceiling) (eqb r.rate 0)
     (λ e. let z = eqb-true r.rate 0 e in omega arith)
     (λ e.
-    by_test (λ (d : Decision). code_of (over (written_by d) (some r)) ≡ min r.rate ceiling) (eqb (min r.rate ceiling) 0) (λ m. sym (eqb-true (min r.rate ceiling) 0 m)) (λ m. refl))
+    by_test (λ (d : Decision). code_of (over (written_by d) (Some r)) ≡ min r.rate ceiling) (eqb (min r.rate ceiling) 0) (λ m. sym (eqb-true (min r.rate ceiling) 0 m)) (λ m. refl))
 
 -- what a router leaves in a packet is viewed there
 code_put : (ceiling fresh : ℕ) (packet : List ℕ) (v : View) → Bytes packet → view (length packet) packet ≡ answer v
@@ -54,8 +54,8 @@ code_put ceiling fresh packet v b e =
 
 -- a grant at most the lesser of rate and ceiling is what is left at that ceiling
 grant_left : (ceiling grant : ℕ) (x : Option Request) → grant ≤ wish_of ceiling x → wish_of grant x ≡ grant
-grant_left ceiling grant none h = omega arith
-grant_left ceiling grant (some r) h = omega arith
+grant_left ceiling grant None h = omega arith
+grant_left ceiling grant (Some r) h = omega arith
 
 -- ---- packets follow calls
 

@@ -3,10 +3,9 @@
 use Rattle.std.specs.Prelude.{ℕ, List, ◌≡◌}
 use Rattle.refusals.specs.Reply.{answer, and_then}
 use Rattle.wire_rules.specs.declared.Request.{Request}
-use Rattle.wire_rules.specs.declared.Place.TheVariants.{At}
+use Rattle.std.specs.Prelude.{Some}
 use Rattle.wire_rules.specs.Ipv4.Packets.{located}
 use Rattle.wire_rules.specs.Ipv4.Views.{view}
-use Rattle.gateway_rules.specs.declared.Asking.TheVariants.{For}
 use Rattle.gateway_rules.specs.declared.Seen.{Seen}
 use Rattle.gateway_rules.specs.Inspect.Sights.{sighted, view_of}
 
@@ -15,4 +14,4 @@ pub record Looking : Type 0 where
   pub views : (reach : ℕ) (packet : List ℕ) → and_then (sighted reach packet) (λ seen. answer (view_of seen)) ≡ view reach packet
   -- a request stands at the place of the packet's option
   pub placed : (reach : ℕ) (packet : List ℕ) (seen : Seen) (place : ℕ) (r : Request)
-      → sighted reach packet ≡ answer seen → seen.asking ≡ For place r → located reach packet ≡ answer (At place)
+      → sighted reach packet ≡ answer seen → seen.asking ≡ Some (place, r) → located reach packet ≡ answer (Some place)

@@ -1,18 +1,18 @@
 -- What is claimed of a receiver beyond the contracts: which refusal is given, when a request is answered, and that the response reads back
 -- as what was reported. Ranges are the paper's numbers. Assumes nothing.
 use Rattle.std.specs.Prelude.{ℕ, ◌+◌, ◌/◌, ◌%◌, ◌≤◌, ◌<◌, min, List, ◌⊎◌, ◌≡◌, length, get_or}
-use Rattle.std.proofs.Math.Option.{some}
+use Rattle.std.specs.Prelude.{None, Some}
 use Rattle.common.specs.Lists.{Bytes}
 use Rattle.refusals.specs.Reply.{Reply, answer, refuse}
 use Rattle.wire_rules.specs.declared.Request.{Request}
 use Rattle.wire_rules.specs.declared.Response.{Response}
 use Rattle.wire_rules.specs.Options.Wire.{high_half, reserved_in}
 use Rattle.wire_rules.specs.Options.Responses.{response_read}
-use Rattle.wire_rules.specs.declared.Place.TheVariants.{Nowhere, At}
 use Rattle.wire_rules.specs.Ipv4.Packets.{located}
 use Rattle.wire_rules.specs.Ipv4.Views.{view}
 use Rattle.wire_rules.specs.Ipv4.Claims.{SameHeader}
-use Rattle.gateway_rules.specs.Receiver.Reports.{Report, unanswered, reported, received, response_after, silence, response, reaction_in}
+use Rattle.gateway_rules.specs.Receiver.Reports.{Report, unanswered, reported, received, response_after, reaction_in}
+use Rattle.gateway_rules.specs.declared.Reaction.TheVariants.{Unanswered, Answered}
 
 -- a receiver: by how far the total length may reach, its ceiling and the bytes of the response buffer, what it reports of a packet
 abbrev pub Receiver : Type 0
@@ -34,13 +34,13 @@ pub record Receiving (receiver : Receiver) : Type 0 where
   -- "7, 1, 2, then 3 and 5 as met, then 4": no option, or an option of another function
   pub seven : (reach ceiling room : ℕ) (packet : List ℕ) → (Given ceiling room → ⊥) → receiver reach ceiling room packet ≡ refuse 7
   pub faulty : (reach ceiling room n : ℕ) (packet : List ℕ) → Given ceiling room → located reach packet ≡ refuse n → receiver reach ceiling room packet ≡ refuse n
-  pub no_option : (reach ceiling room : ℕ) (packet : List ℕ) → Given ceiling room → located reach packet ≡ answer Nowhere → receiver reach ceiling room packet ≡ refuse 4
-  pub other_function : (reach ceiling room place : ℕ) (packet : List ℕ) → Given ceiling room → located reach packet ≡ answer (At place) → (get_or packet (place + 2) 0 / 16 ≡ 0 → ⊥)
+  pub no_option : (reach ceiling room : ℕ) (packet : List ℕ) → Given ceiling room → located reach packet ≡ answer None → receiver reach ceiling room packet ≡ refuse 4
+  pub other_function : (reach ceiling room place : ℕ) (packet : List ℕ) → Given ceiling room → located reach packet ≡ answer (Some place) → (get_or packet (place + 2) 0 / 16 ≡ 0 → ⊥)
       → receiver reach ceiling room packet ≡ refuse 4
   -- "If 0, it is "unanswered"": for a request of rate 0, or at ceiling 0, and for no other, whatever IP TTL and QS TTL are
-  pub silent : (reach ceiling room ttl : ℕ) (packet : List ℕ) (r : Request) → Given ceiling room → view reach packet ≡ answer (record { ttl = ttl; request = some r })
+  pub silent : (reach ceiling room ttl : ℕ) (packet : List ℕ) (r : Request) → Given ceiling room → view reach packet ≡ answer (record { ttl = ttl; request = Some r })
       → (r.rate ≡ 0) ⊎ (ceiling ≡ 0) → receiver reach ceiling room packet ≡ answer unanswered
-  pub answers : (reach ceiling room ttl : ℕ) (packet : List ℕ) (r : Request) → Bytes packet → Given ceiling room → view reach packet ≡ answer (record { ttl = ttl; request = some r })
+  pub answers : (reach ceiling room ttl : ℕ) (packet : List ℕ) (r : Request) → Bytes packet → Given ceiling room → view reach packet ≡ answer (record { ttl = ttl; request = Some r })
       → 1 ≤ r.rate → 1 ≤ ceiling → (response : Response) × Reports r ttl ceiling response × (receiver reach ceiling room packet ≡ answer (reported response))
 
 -- what the response buffer holds afterwards
@@ -56,8 +56,8 @@ pub record Responding : Type 0 where
 
 -- what an answer says of a report
 pub record Saying : Type 0 where
-  pub answered : (r : Response) → reaction_in (answer (reported r)) ≡ answer response
-  pub silent : reaction_in (answer unanswered) ≡ answer silence
+  pub answered : (r : Response) → reaction_in (answer (reported r)) ≡ answer Answered
+  pub silent : reaction_in (answer unanswered) ≡ answer Unanswered
   pub refused : (n : ℕ) → reaction_in (refuse n) ≡ refuse n
 
 -- ours has them

@@ -1,7 +1,7 @@
 -- What a receiver reports (document 01, "Router, receiver, sender"): the decision in numbers, the response buffer afterwards, and whether
 -- it was written. Assumes nothing.
 use Rattle.std.specs.Prelude.{ℕ, min, Bool, ◌&&◌, List, eqb, leb}
-use Rattle.std.proofs.Math.Option.{Option, none, some}
+use Rattle.std.specs.Prelude.{Option, None, Some}
 use Rattle.common.specs.Choice.{pick}
 use Rattle.refusals.specs.Reply.{Reply, answer, refuse, leaves, and_then}
 use Rattle.wire_rules.specs.Rates.Steps.{top_code}
@@ -9,6 +9,8 @@ use Rattle.wire_rules.specs.declared.Request.{Request}
 use Rattle.wire_rules.specs.declared.Response.{Response}
 use Rattle.wire_rules.specs.Options.Wire.{option_length}
 use Rattle.wire_rules.specs.Options.Responses.{ttl_diff, response_written}
+use Rattle.gateway_rules.specs.declared.Reaction.{Reaction}
+use Rattle.gateway_rules.specs.declared.Reaction.TheVariants.{Unanswered, Answered}
 use Rattle.wire_rules.specs.Ipv4.Views.{view}
 
 -- what a receiver decides: to leave a request unanswered, or what to report
@@ -24,8 +26,8 @@ report_on ceiling ttl r =
 
 -- "No option or function not 0: refusal 4."
 abbrev pub report_reply : ℕ → ℕ → Option Request → Reply Report
-report_reply ceiling ttl none = refuse 4
-report_reply ceiling ttl (some r) = answer (report_on ceiling ttl r)
+report_reply ceiling ttl None = refuse 4
+report_reply ceiling ttl (Some r) = answer (report_on ceiling ttl r)
 
 -- "ceilings 0 to 15", "option buffers exactly 8 bytes"
 unfoldable pub receiver_in_range : ℕ → ℕ → Bool
@@ -44,13 +46,9 @@ response_after old (answer unanswered) = old
 response_after old (refuse n) = old
 
 -- whether a request was answered
-pub data Reaction : Type 0 where
-  silence : Reaction
-  response : Reaction
-
 abbrev pub reaction_to : Report → Reaction
-reaction_to unanswered = silence
-reaction_to (reported r) = response
+reaction_to unanswered = Unanswered
+reaction_to (reported r) = Answered
 
 abbrev pub reaction_in : Reply Report → Reply Reaction
 reaction_in (answer report) = answer (reaction_to report)

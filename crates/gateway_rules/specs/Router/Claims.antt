@@ -2,15 +2,14 @@
 -- numbers, when the ledger is asked, and the allowance in the packets. Places in a packet are RFC 791's numbers (8 is IP TTL, 10 and 11 the
 -- checksum), and ranges are the paper's. Assumes nothing.
 use Rattle.std.specs.Prelude.{ℕ, ◌+◌, ◌-◌, ◌%◌, ◌^◌, ◌≤◌, ◌<◌, min, ◌&&◌, List, [], ◌⊎◌, ◌≡◌, eqb, length, get_or}
-use Rattle.std.proofs.Math.Option.{Option, none, some}
+use Rattle.std.specs.Prelude.{Option, None, Some}
+use Rattle.wire_rules.specs.Walk.Walks.{Place}
 use Rattle.common.specs.Choice.{pick}
 use Rattle.common.specs.Lists.{Bytes}
 use Rattle.refusals.specs.Reply.{Reply, answer, refuse, done, leaves, and_then, Outcome}
 use Rattle.wire_rules.specs.declared.Request.{Request}
 use Rattle.wire_rules.specs.Options.Wire.{reserved_in}
 use Rattle.wire_rules.specs.Options.Claims.{Kept}
-use Rattle.wire_rules.specs.declared.Place.{Place}
-use Rattle.wire_rules.specs.declared.Place.TheVariants.{Nowhere, At}
 use Rattle.wire_rules.specs.Ipv4.Headers.{header_length}
 use Rattle.wire_rules.specs.Ipv4.Checksums.{sealed}
 use Rattle.wire_rules.specs.Ipv4.Checks.{header_checked}
@@ -38,12 +37,12 @@ pub record Approves (r : Request) (ceiling fresh : ℕ) (new : Request) : Type 0
 
 pub record Deciding : Type 0 where
   -- "With no option, function not 0, or rate 0, no more changes."
-  pub no_request : (ceiling fresh : ℕ) → decision ceiling fresh none ≡ Decisions.Nothing
-  pub rate_0 : (ceiling fresh : ℕ) (r : Request) → r.rate ≡ 0 → decision ceiling fresh (some r) ≡ Decisions.Nothing
+  pub no_request : (ceiling fresh : ℕ) → decision ceiling fresh None ≡ Decisions.Nothing
+  pub rate_0 : (ceiling fresh : ℕ) (r : Request) → r.rate ≡ 0 → decision ceiling fresh (Some r) ≡ Decisions.Nothing
   -- a rate above 0 is denied at ceiling 0, and at any other approved, whatever the QS TTL is
-  pub denies : (fresh : ℕ) (r : Request) → 1 ≤ r.rate → decision 0 fresh (some r) ≡ Decisions.Denied
+  pub denies : (fresh : ℕ) (r : Request) → 1 ≤ r.rate → decision 0 fresh (Some r) ≡ Decisions.Denied
   pub approves : (ceiling fresh : ℕ) (r : Request) → 1 ≤ r.rate → 1 ≤ ceiling
-      → (new : Request) × (decision ceiling fresh (some r) ≡ Decisions.Approved new) × Approves r ceiling fresh new
+      → (new : Request) × (decision ceiling fresh (Some r) ≡ Decisions.Approved new) × Approves r ceiling fresh new
 
 -- ---- which refusal is given, and what an accepted call leaves
 
@@ -78,8 +77,8 @@ pub record PassedOn (reach : ℕ) (packet new : List ℕ) (Outside : ℕ → Typ
 
 -- outside the six bytes behind the length of the option, where there is one
 abbrev pub OutsideOption : Place → ℕ → Type 0
-OutsideOption Nowhere i = Unit {0}
-OutsideOption (At place) i = (i < place + 2) ⊎ (place + 8 ≤ i)
+OutsideOption None i = Unit {0}
+OutsideOption (Some place) i = (i < place + 2) ⊎ (place + 8 ≤ i)
 
 -- every place
 abbrev pub Anywhere : ℕ → Type 0
@@ -87,8 +86,8 @@ Anywhere i = Unit {0}
 
 -- no request, or one whose rate is 0
 abbrev pub AsksNothing : Option Request → Type 0
-AsksNothing none = Unit {0}
-AsksNothing (some r) = r.rate ≡ 0
+AsksNothing None = Unit {0}
+AsksNothing (Some r) = r.rate ≡ 0
 
 -- "in every accepted case"
 pub record Passing (router : Router) : Type 0 where
@@ -98,7 +97,7 @@ pub record Passing (router : Router) : Type 0 where
   pub untouched : (reach ceiling fresh : ℕ) (packet new : List ℕ) (v : View) → Bytes packet → view reach packet ≡ answer v → AsksNothing v.request
       → router reach ceiling fresh packet ≡ answer new → PassedOn reach packet new Anywhere
   -- "Reserved bits are .. left by routers"
-  pub reserved : (reach ceiling fresh place : ℕ) (packet new : List ℕ) → Bytes packet → located reach packet ≡ answer (At place) → router reach ceiling fresh packet ≡ answer new
+  pub reserved : (reach ceiling fresh place : ℕ) (packet new : List ℕ) → Bytes packet → located reach packet ≡ answer (Some place) → router reach ceiling fresh packet ≡ answer new
       → reserved_in (option_at place new) ≡ reserved_in (option_at place packet)
 
 -- "A silent router does the IP part only": 1 and 2, then 6, and never 3 or 5
@@ -113,8 +112,8 @@ pub record Silence (silent : ℕ → List ℕ → Reply (List ℕ)) : Type 0 whe
 -- a packet of bytes without fault that carries a request at a place, and its IP TTL
 pub record Carries (reach : ℕ) (packet : List ℕ) (place ttl : ℕ) (r : Request) : Type 0 where
   pub bytes : Bytes packet
-  pub located_at : located reach packet ≡ answer (At place)
-  pub viewed : view reach packet ≡ answer (record { ttl = ttl; request = some r })
+  pub located_at : located reach packet ≡ answer (Some place)
+  pub viewed : view reach packet ≡ answer (record { ttl = ttl; request = Some r })
 
 -- a reply with a packet that is again without fault, has its option at the same place, and carries these four numbers: IP TTL, rate, QS TTL
 -- and nonce
@@ -172,10 +171,10 @@ pub record LedgerRouting (router : ℕ → ℕ → ℕ → ℕ → Passage → R
   pub six : (reach ceiling fresh tick : ℕ) (p : Passage) (place : Place) → AllGiven ceiling fresh p → located reach p.packet ≡ answer place → get_or p.packet 8 0 ≤ 1
       → router reach ceiling fresh tick p ≡ refuse 6
   -- "asks it for the lesser of rate and ceiling and takes the grant as its ceiling"; 8 and 9 are the ledger's
-  pub not_granted : (reach ceiling fresh tick ttl n : ℕ) (p : Passage) (r : Request) → AllGiven ceiling fresh p → view reach p.packet ≡ answer (record { ttl = ttl; request = some r })
+  pub not_granted : (reach ceiling fresh tick ttl n : ℕ) (p : Passage) (r : Request) → AllGiven ceiling fresh p → view reach p.packet ≡ answer (record { ttl = ttl; request = Some r })
       → 1 < ttl → 1 ≤ r.rate → 1 ≤ ceiling → ask_reply p.link tick (min r.rate ceiling) ≡ refuse n → router reach ceiling fresh tick p ≡ refuse n
   pub granted : (reach ceiling fresh tick ttl : ℕ) (p : Passage) (r : Request) (g : Granted) → AllGiven ceiling fresh p
-      → view reach p.packet ≡ answer (record { ttl = ttl; request = some r }) → 1 < ttl → 1 ≤ r.rate → 1 ≤ ceiling → ask_reply p.link tick (min r.rate ceiling) ≡ answer g
+      → view reach p.packet ≡ answer (record { ttl = ttl; request = Some r }) → 1 < ttl → 1 ≤ r.rate → 1 ≤ ceiling → ask_reply p.link tick (min r.rate ceiling) ≡ answer g
       → AtCeiling reach g.code fresh p.packet g.link (router reach ceiling fresh tick p)
   -- "the ledger is untouched"
   pub not_asked : (reach ceiling fresh tick : ℕ) (p : Passage) (v : View) → AllGiven ceiling fresh p → view reach p.packet ≡ answer v → 1 < v.ttl → AsksNoLedger ceiling v.request
@@ -260,8 +259,8 @@ ledger_router_by wish taken ceiling fresh tick p =
 
 -- the rate of the request, where ours would ask for the lesser of it and the ceiling
 abbrev pub asking_the_rate : ℕ → Option Request → ℕ
-asking_the_rate ceiling none = 0
-asking_the_rate ceiling (some r) = pick (eqb ceiling 0) 0 r.rate
+asking_the_rate ceiling None = 0
+asking_the_rate ceiling (Some r) = pick (eqb ceiling 0) 0 r.rate
 
 pub record ShutOut : Type 0 where
   -- with our parts put in, it is ours

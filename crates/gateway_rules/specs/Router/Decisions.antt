@@ -1,6 +1,6 @@
 -- What a router decides of a request: numbers alone, and no bytes (document 01, "Router, receiver, sender"). Assumes nothing.
 use Rattle.std.specs.Prelude.{ℕ, ◌+◌, ◌%◌, min, eqb}
-use Rattle.std.proofs.Math.Option.{Option, none, some}
+use Rattle.std.specs.Prelude.{Option, None, Some}
 use Rattle.common.specs.Choice.{pick}
 use Rattle.wire_rules.specs.declared.Request.{Request}
 use Rattle.wire_rules.specs.Options.Nonces.{lowered}
@@ -25,8 +25,8 @@ decided ceiling fresh r =
 
 -- "With no option, function not 0, or rate 0, no more changes."
 abbrev pub decision : ℕ → ℕ → Option Request → Decision
-decision ceiling fresh none = Nothing
-decision ceiling fresh (some r) = decided ceiling fresh r
+decision ceiling fresh None = Nothing
+decision ceiling fresh (Some r) = decided ceiling fresh r
 
 -- how a denial is written: "If it is 0, rate, QS TTL and nonce become 0."
 abbrev pub denial : Request
@@ -34,13 +34,13 @@ denial = record { rate = 0; qs_ttl = 0; nonce = 0 }
 
 -- what a decision writes over the request that it is about, and what request stands there afterwards
 abbrev pub written_by : Decision → Option Request
-written_by Nothing = none
-written_by (Approved r) = some r
-written_by Denied = some denial
+written_by Nothing = None
+written_by (Approved r) = Some r
+written_by Denied = Some denial
 
 abbrev pub over : Option Request → Option Request → Option Request
-over none old = old
-over (some r) old = some r
+over None old = old
+over (Some r) old = Some r
 
 abbrev pub request_after : ℕ → ℕ → Option Request → Option Request
 request_after ceiling fresh old = over (written_by (decision ceiling fresh old)) old

@@ -1,7 +1,7 @@
 -- Routers on packets (document 01, "Router, receiver, sender", "Ledger" and the order of tests): a router's decision put into the packet's
 -- view. Assumes nothing.
 use Rattle.std.specs.Prelude.{ℕ, zero, suc, ◌-◌, min, Bool, ◌&&◌, List, leb, ltb, length}
-use Rattle.std.proofs.Math.Option.{Option, none, some}
+use Rattle.std.specs.Prelude.{Option, None, Some}
 use Rattle.common.specs.Choice.{pick}
 use Rattle.refusals.specs.Reply.{Reply, answer, refuse, leaves, done, and_then, Outcome}
 use Rattle.wire_rules.specs.Rates.Steps.{top_code}
@@ -39,8 +39,8 @@ silently_routed reach packet = forwarded reach packet
 
 -- "A router with a ledger asks it for the lesser of rate and ceiling": that code, or 0 where it does not ask
 abbrev pub wish_of : ℕ → Option Request → ℕ
-wish_of ceiling none = 0
-wish_of ceiling (some r) = min r.rate ceiling
+wish_of ceiling None = 0
+wish_of ceiling (Some r) = min r.rate ceiling
 
 -- "takes the grant as its ceiling; with no request, or rate or ceiling 0, the ledger is untouched": the ceiling to decide by, and the link
 -- afterwards

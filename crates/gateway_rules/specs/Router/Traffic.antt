@@ -1,7 +1,7 @@
 -- Packets through one router with one ledger, one after the other, and the rates that the router left in them. It is defined for any such
 -- router, so that a claim about it can be made of ours and of others. Assumes nothing.
 use Rattle.std.specs.Prelude.{ℕ, List, [], ◌∷◌, length}
-use Rattle.std.proofs.Math.Option.{Option, none, some}
+use Rattle.std.specs.Prelude.{Option, None, Some}
 use Rattle.common.specs.Lists.{Bytes}
 use Rattle.refusals.specs.Reply.{Reply, answer, refuse, Outcome}
 use Rattle.wire_rules.specs.declared.Request.{Request}
@@ -51,8 +51,8 @@ after_arrivals router traffic (a ∷ rest) = after_arrivals router (after_arriva
 
 -- the rate code that stands in a packet: that of its request, and 0 where it has none
 abbrev pub code_of : Option Request → ℕ
-code_of none = 0
-code_of (some r) = r.rate
+code_of None = 0
+code_of (Some r) = r.rate
 
 abbrev pub code_seen : Reply View → ℕ
 code_seen (answer v) = code_of v.request

@@ -4,8 +4,5 @@ use Rattle.path_rules.specs.Path.Runs.{hop}
 use Rattle.path.proofs.RunLaws.{Underway}
 use Rattle.path.proofs.travel.Given as goal
 
-abbrev pub invariant-loop-room : goal.invariant-loop-room
-invariant-loop-room l = Underway hop l.row l.initial.packet l.room l.at l.packet
-
-abbrev pub decreases-loop-room : goal.decreases-loop-room
-decreases-loop-room l = l.room
+abbrev pub invariant-loop : goal.invariant-loop
+invariant-loop l = Underway hop l.row l.initial.packet l.counter l.at l.packet

@@ -1,8 +1,8 @@
 -- Laws of rows as bytes: the record in front of some bytes, and the records read before those that are left. Assumes nothing.
-use Prim.Native.Nat.{ℕ, zero, suc, ◌-◌, ◌≤◌}
+use Prim.Native.Nat.{ℕ, zero, suc, ◌≤◌}
 use mathlib.Core.Bool.{true, ◌&&◌}
 use mathlib.Core.List.{List}
-use mathlib.Core.Option.{Option, none, some}
+use Rattle.std.specs.Prelude.{Option, None, Some}
 use mathlib.Core.Path.{◌≡◌, refl, ap}
 use lib.Dec.{leb, eqb}
 use lib.ListN.{length, get_or, drop}
@@ -23,12 +23,12 @@ knowing_if bytes e =
 
 -- ---- the records that are left from a place on
 
-pub hops_end : (limit : ℕ) (bytes : List ℕ) → front_of bytes ≡ none → hops_from limit bytes ≡ no_hops bytes
+pub hops_end : (limit : ℕ) (bytes : List ℕ) → front_of bytes ≡ None → hops_from limit bytes ≡ no_hops bytes
 unfolding hops_from
 hops_end zero bytes e = refl
 hops_end (suc limit) bytes e = ap (λ (f : Option Router). go_on bytes f (λ router. hops_from limit (drop (length_of router) bytes))) e
 
-pub hops_next : (limit : ℕ) (bytes : List ℕ) (router : Router) → front_of bytes ≡ some router
+pub hops_next : (limit : ℕ) (bytes : List ℕ) (router : Router) → front_of bytes ≡ Some router
     → hops_from (suc limit) bytes ≡ ahead router (hops_from limit (drop (length_of router) bytes))
 unfolding hops_from
 hops_next limit bytes router e = ap (λ (f : Option Router). go_on bytes f (λ r. hops_from limit (drop (length_of r) bytes))) e

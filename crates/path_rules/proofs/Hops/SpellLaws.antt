@@ -4,7 +4,7 @@ use Prim.Native.Nat.{ℕ, zero, suc, ◌+◌, ◌*◌, ◌/◌, ◌%◌, ◌≤�
 use mathlib.Core.Bool.{Bool, true, false}
 use mathlib.Core.List.{List, [], ◌∷◌, ◌++◌, append-nil, append_assoc}
 use mathlib.Core.Logic.{◌⊎◌, inl, inr}
-use mathlib.Core.Option.{Option, none, some}
+use Rattle.std.specs.Prelude.{Option, None, Some}
 use mathlib.Core.Path.{◌≡◌, refl, sym, ap, subst, ◌∙◌}
 use native.Mathlib.Omega.{arith}
 use borrow.Author.Tests.{le-leb, eqb-true}
@@ -27,15 +27,15 @@ use Rattle.path_rules.proofs.Hops.RowLaws.{knowing_if, hops_end, hops_next}
 
 -- ---- the record in front
 
-pub front_knowing : (ceiling a b c d : ℕ) (bytes : List ℕ) → ceiling ≤ 15 → front_of (2 ∷ ceiling ∷ a ∷ b ∷ c ∷ d ∷ bytes) ≡ some (Knowing ceiling (word_from a b c d / 4))
+pub front_knowing : (ceiling a b c d : ℕ) (bytes : List ℕ) → ceiling ≤ 15 → front_of (2 ∷ ceiling ∷ a ∷ b ∷ c ∷ d ∷ bytes) ≡ Some (Knowing ceiling (word_from a b c d / 4))
 unfolding front_of is_knowing
 front_knowing ceiling a b c d bytes h = simp (le-leb 6 (length (2 ∷ ceiling ∷ a ∷ b ∷ c ∷ d ∷ bytes)) (omega arith), le-leb ceiling top_code h)
 
-pub front_silent : (bytes : List ℕ) → front_of (3 ∷ bytes) ≡ some Silent
+pub front_silent : (bytes : List ℕ) → front_of (3 ∷ bytes) ≡ Some Silent
 unfolding front_of
 front_silent bytes = refl
 
-pub front_empty : front_of [] ≡ none
+pub front_empty : front_of [] ≡ None
 unfolding front_of is_knowing
 front_empty = refl
 
@@ -76,12 +76,12 @@ found_knowing bytes e =
           record_2 (get_or bytes 1 0) (nonce_at 2 bytes) (get_or bytes 2 0) (get_or bytes 3 0) (get_or bytes 4 0) (get_or bytes 5 0) routers row is.2 refl s;
     }
 
-pub found : (bytes : List ℕ) (router : Router) → front_of bytes ≡ some router → Found bytes router
+pub found : (bytes : List ℕ) (router : Router) → front_of bytes ≡ Some router → Found bytes router
 unfolding front_of
 found bytes router e = go (eqb (get_or bytes 0 0) 3) (is_knowing bytes) refl refl e
   where
     go : (t u : Bool) → eqb (get_or bytes 0 0) 3 ≡ t → is_knowing bytes ≡ u
-        → pick t (some Silent) (pick u (some (Knowing (get_or bytes 1 0) (nonce_at 2 bytes))) none) ≡ some router → Found bytes router
+        → pick t (Some Silent) (pick u (Some (Knowing (get_or bytes 1 0) (nonce_at 2 bytes))) None) ≡ Some router → Found bytes router
     go true u p q f = subst (Found bytes) (cc) (found_silent bytes p)
     go false true p q f = subst (Found bytes) (cc) (found_knowing bytes q)
     go false false p q f = absurd (clash (cc))
@@ -109,16 +109,16 @@ split (suc limit) bytes = go (front_of bytes) refl (λ router. split limit (drop
   where
     go : (o : Option Router) → front_of bytes ≡ o → ((router : Router) → Split limit (drop (length_of router) bytes) (hops_from limit (drop (length_of router) bytes)))
         → Split (suc limit) bytes (hops_from (suc limit) bytes)
-    go none e more = subst (Split (suc limit) bytes) (sym (hops_end (suc limit) bytes e)) ([], refl, no_record, zero-le)
-    go (some router) e more =
+    go None e more = subst (Split (suc limit) bytes) (sym (hops_end (suc limit) bytes e)) ([], refl, no_record, zero-le)
+    go (Some router) e more =
         subst (Split (suc limit) bytes) (sym (hops_next limit bytes router e)) (split_more limit bytes router _ (found bytes router e) (more router))
 
-one_less : (n limit : ℕ) (rest : List ℕ) → (suc n ≡ suc limit) ⊎ (front_of rest ≡ none) → (n ≡ limit) ⊎ (front_of rest ≡ none)
+one_less : (n limit : ℕ) (rest : List ℕ) → (suc n ≡ suc limit) ⊎ (front_of rest ≡ None) → (n ≡ limit) ⊎ (front_of rest ≡ None)
 one_less n limit rest (inl e) = inl (omega arith)
 one_less n limit rest (inr e) = inr e
 
 -- a spelling is read back, if no router's record follows it or the limit is reached
-pub spelt_front : (limit : ℕ) (routers : List Router) (row rest : List ℕ) → Spells routers row → length routers ≤ limit → (length routers ≡ limit) ⊎ (front_of rest ≡ none)
+pub spelt_front : (limit : ℕ) (routers : List Router) (row rest : List ℕ) → Spells routers row → length routers ≤ limit → (length routers ≡ limit) ⊎ (front_of rest ≡ None)
     → hops_from limit (row ++ rest) ≡ record { routers = routers; rest = rest }
 unfolding hops_from length_of
 spelt_front zero routers row rest no_record h end = refl
@@ -126,7 +126,7 @@ spelt_front (suc limit) routers row rest no_record h (inl e) = absurd (omega ari
 spelt_front (suc limit) routers row rest no_record h (inr e) = hops_end (suc limit) rest e
 spelt_front zero routers row rest (record_2 ceiling fresh a b c d routers' row' low word s) h end = absurd (omega arith)
 spelt_front (suc limit) routers row rest (record_2 ceiling fresh a b c d routers' row' low word s) h end =
-    hops_next limit (2 ∷ ceiling ∷ a ∷ b ∷ c ∷ d ∷ (row' ++ rest)) (Knowing ceiling fresh) (front_knowing ceiling a b c d (row' ++ rest) low ∙ ap (λ (n : ℕ). some (Knowing ceiling n)) word)
+    hops_next limit (2 ∷ ceiling ∷ a ∷ b ∷ c ∷ d ∷ (row' ++ rest)) (Knowing ceiling fresh) (front_knowing ceiling a b c d (row' ++ rest) low ∙ ap (λ (n : ℕ). Some (Knowing ceiling n)) word)
     ∙ ap (ahead (Knowing ceiling fresh)) (spelt_front limit routers' row' rest s (omega arith) (one_less (length routers') limit rest end))
 spelt_front zero routers row rest (record_3 routers' row' s) h end = absurd (omega arith)
 spelt_front (suc limit) routers row rest (record_3 routers' row' s) h end =

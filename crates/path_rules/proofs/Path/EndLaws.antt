@@ -1,5 +1,5 @@
 -- Laws of the end of a path: what receiver and sender make of the packet that came. Assumes nothing.
-use Prim.Native.Nat.{ℕ, ◌-◌, ◌≤◌, ◌<◌, min}
+use Prim.Native.Nat.{ℕ, ◌≤◌, ◌<◌, min}
 use mathlib.Core.List.{List}
 use mathlib.Core.Logic.{◌⊎◌, inl, inr}
 use mathlib.Core.Path.{◌≡◌, refl, sym, ap, ◌∙◌}
@@ -23,7 +23,7 @@ use Rattle.sender_rules.specs.declared.OpenRequest.{OpenRequest}
 use Rattle.sender_rules.specs.declared.State.TheVariants.{Asked}
 use Rattle.sender_rules.specs.declared.Connection.{Connection}
 use Rattle.sender_rules.specs.Connections.Claims.{InRange}
-use Rattle.sender_rules.specs.Sender.Calls.{Transport}
+use Rattle.wire_rules.specs.declared.Transport.{Transport}
 use Rattle.sender_rules.specs.Sender.Claims.{ResponseGiven, RateFits, Fits, quick_window}
 use Rattle.sender_rules.proofs.Sender.Claims.{ours}
 use Rattle.path_rules.specs.Hops.Verdicts as Verdicts

@@ -9,7 +9,7 @@ use Rattle.common.proofs.Choice.{le_or_gt, clash}
 use Rattle.refusals.specs.Reply.{Reply, answer, refuse, and_then, Outcome}
 use Rattle.wire_rules.specs.declared.Request.{Request}
 use Rattle.wire_rules.specs.Options.Requests.{request_read}
-use Rattle.wire_rules.specs.declared.Place.{Place}
+use Rattle.wire_rules.specs.Walk.Walks.{Place}
 use Rattle.wire_rules.specs.Ipv4.Headers.{ip_ttl}
 use Rattle.wire_rules.specs.Ipv4.Views.{as_request, request_at}
 use Rattle.gateway_rules.specs.Router.Claims.{Carries}
@@ -63,7 +63,7 @@ module _ (g : Setting) (d : Demanded path_calls g) where
 
   -- the packet carries what the sender wrote
   abbrev pub asked_for_lem : Request
-  asked_for_lem = record { rate = g.wish.code; qs_ttl = g.wish.qs; nonce = g.wish.nonce }
+  asked_for_lem = record { rate = g.wish.code; qs_ttl = g.wish.qs_ttl; nonce = g.wish.nonce }
 
   pub carries : Carries (length g.packet) g.packet d.carried.place g.wish.ttl asked_for_lem
   carries = record {

@@ -8,7 +8,7 @@ use lib.ListN.{length, get_or}
 use Rattle.common.specs.Lists.{Bytes}
 use Rattle.common.proofs.Lists.{written_out, bytes_each}
 use Rattle.refusals.specs.Reply.{answer}
-use Rattle.wire_rules.specs.declared.Place.TheVariants.{At}
+use Rattle.std.specs.Prelude.{Some}
 use Rattle.wire_rules.specs.Walk.Claims.{none, last}
 use Rattle.wire_rules.specs.Ipv4.Headers.{header_length, options_of}
 use Rattle.wire_rules.specs.Ipv4.Checksums.{with_checksum, sealed}
@@ -17,7 +17,7 @@ use Rattle.wire_rules.specs.Ipv4.Packets.{located}
 use Rattle.wire_rules.proofs.Ipv4.Claims.{sealing, reading, locating}
 use Rattle.wire_rules.proofs.Options.Claims.{request_is}
 use Rattle.sender_rules.specs.declared.Connection.{Connection}
-use Rattle.sender_rules.specs.Sender.Calls.{Wish}
+use Rattle.sender_rules.specs.declared.Wish.{Wish}
 use Rattle.sender_rules.proofs.Sender.AskClaims.{sent_only}
 use Rattle.path_rules.specs.Path.Runs.{path_calls}
 use Rattle.path_rules.specs.Path.Demands.{header_with, plain}
@@ -46,7 +46,7 @@ module _ (ttl c d e f g h : ℕ) (bound : (ttl < 256) × (c < 256) × (d < 256) 
   unfolding sealed with_checksum header_length
   area = refl
 
-  found : located 28 (sealed unsealed) ≡ answer (At 20)
+  found : located 28 (sealed unsealed) ≡ answer (Some 20)
   found =
       locating.complete 28 (header_length unsealed) 0 (sealed unsealed) (sealing.passes 28 unsealed bytes well)
       (record {
@@ -71,7 +71,7 @@ module _ (ttl c d e f g h : ℕ) (bound : (ttl < 256) × (c < 256) × (d < 256) 
   }
 
 -- what an accepted asking wrote is such an option
-module _ (c : Connection) (w : Wish) (buffer : List ℕ) (q : w.qs < 256) (e : (path_calls.ask c w buffer).said ≡ answer tt) where
+module _ (c : Connection) (w : Wish) (buffer : List ℕ) (q : w.qs_ttl < 256) (e : (path_calls.ask c w buffer).said ≡ answer tt) where
   abbrev wrote : List ℕ
   wrote = (path_calls.ask c w buffer).left.request
 

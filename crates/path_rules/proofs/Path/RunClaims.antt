@@ -4,7 +4,8 @@ use Prim.Native.Nat.{ℕ, ◌≤◌, ◌<◌, min}
 use mathlib.Core.Bool.{true, false, ◌&&◌}
 use mathlib.Core.List.{List, [], ◌∷◌, Permᴰ}
 use mathlib.Core.Logic.{◌⊎◌, inl, inr, ⊎_elim}
-use mathlib.Core.Option.{Option, none, some}
+use Rattle.std.specs.Prelude.{Option, None, Some}
+use Rattle.wire_rules.specs.Walk.Walks.{Place}
 use mathlib.Core.Path.{◌≡◌, refl, sym, ap, subst, ◌∙◌}
 use native.Mathlib.Omega.{arith}
 use borrow.Author.Tests.{le-leb, leb-true}
@@ -20,8 +21,6 @@ use Rattle.wire_rules.proofs.Rates.WindowLaws.{transport_facts}
 use Rattle.wire_rules.specs.declared.Request.{Request}
 use Rattle.wire_rules.specs.declared.Response.{Response}
 use Rattle.wire_rules.specs.Options.Responses.{response_read}
-use Rattle.wire_rules.specs.declared.Place.{Place}
-use Rattle.wire_rules.specs.declared.Place.TheVariants.{Nowhere, At}
 use Rattle.wire_rules.specs.Ipv4.Headers.{ip_ttl}
 use Rattle.wire_rules.specs.Ipv4.Packets.{located}
 use Rattle.wire_rules.specs.Ipv4.Views.{View, request_at, view}
@@ -36,7 +35,8 @@ use Rattle.sender_rules.specs.declared.Connection.{Connection}
 use Rattle.sender_rules.specs.Connections.Records.{in_range}
 use Rattle.sender_rules.specs.Connections.Claims.{StateInRange}
 use Rattle.sender_rules.proofs.Connections.Claims.{ranges}
-use Rattle.sender_rules.specs.Sender.Calls.{Transport, while_asked, judged, sender_calls}
+use Rattle.sender_rules.specs.Sender.Calls.{while_asked, judged, sender_calls}
+use Rattle.wire_rules.specs.declared.Transport.{Transport}
 use Rattle.sender_rules.proofs.Sender.CallLaws.{ends, response_in}
 use Rattle.sender_rules.proofs.Sender.ResponseClaims.{accepted_only}
 use Rattle.path_rules.specs.declared.Router.{Router}
@@ -104,9 +104,9 @@ module _ (c : Connection) (packet : List ℕ) where
   start_by : (x : Reply View) → view (length packet) packet ≡ x → and_then x on_view ≡ start_reply c packet
   start_by x e = ap (λ (v : Reply View). and_then v on_view) (sym e)
 
-  start_asked : (ttl : ℕ) (r : Request) (s : State) → view (length packet) packet ≡ answer (record { ttl = ttl; request = some r }) → c.state ≡ s
+  start_asked : (ttl : ℕ) (r : Request) (s : State) → view (length packet) packet ≡ answer (record { ttl = ttl; request = Some r }) → c.state ≡ s
       → while_asked s (λ request. answer tt) ≡ start_reply c packet
-  start_asked ttl r s e f = ap (λ (x : State). while_asked x (λ request. answer tt)) (sym f) ∙ start_by (answer (record { ttl = ttl; request = some r })) e
+  start_asked ttl r s e f = ap (λ (x : State). while_asked x (λ request. answer tt)) (sym f) ∙ start_by (answer (record { ttl = ttl; request = Some r })) e
 
 module _ (c : Connection) (packet row : List ℕ) (ceiling : ℕ) (t : Transport) where
   call_seven_row : row_of 64 row ≡ refuse 7 → run_call 64 c packet row ceiling t ≡ refusing 7 (journey packet c)
@@ -132,7 +132,7 @@ tests = record {
   seven = λ c packet row ceiling t routers e n. call_seven c packet row ceiling t routers e n;
   faulty = λ c packet row ceiling t routers n e g f.
       refused_with c packet row ceiling t routers e g n (start_by c packet (refuse n) (viewing.refused (length packet) n packet f));
-  four = λ c packet row ceiling t routers ttl e g v. refused_with c packet row ceiling t routers e g 4 (start_by c packet (answer (record { ttl = ttl; request = none })) v);
+  four = λ c packet row ceiling t routers ttl e g v. refused_with c packet row ceiling t routers e g 4 (start_by c packet (answer (record { ttl = ttl; request = None })) v);
   eleven_idle = λ c packet row ceiling t routers ttl r e g v s. refused_with c packet row ceiling t routers e g 11 (start_asked c packet ttl r Idle v s);
   eleven_quick = λ c packet row ceiling t routers ttl r b e g v s. refused_with c packet row ceiling t routers e g 11 (start_asked c packet ttl r (Quick b) v s);
   starts = λ c packet row ceiling t routers q ttl r s. ran_by c packet row ceiling t routers s.row_is s.ranges (start_asked c packet ttl r (Asked q) s.viewed s.waits);
@@ -145,7 +145,7 @@ module _ (call : RunCall) (a : Testing call) (c : Connection) (packet row : List
   Same = call c packet row ceiling t ≡ run_call 64 c packet row ceiling t
 
   module _ (routers : List Router) (e : row_of 64 row ≡ answer routers) (g : InRanges c ceiling t) where
-    by_state : (r : Request) → view (length packet) packet ≡ answer (record { ttl = ip_ttl packet; request = some r }) → (s : State) → c.state ≡ s → Same
+    by_state : (r : Request) → view (length packet) packet ≡ answer (record { ttl = ip_ttl packet; request = Some r }) → (s : State) → c.state ≡ s → Same
     by_state r v Idle f = a.eleven_idle c packet row ceiling t routers (ip_ttl packet) r e g v f ∙ sym (tests.eleven_idle c packet row ceiling t routers (ip_ttl packet) r e g v f)
     by_state r v (Quick b) f = a.eleven_quick c packet row ceiling t routers (ip_ttl packet) r b e g v f ∙ sym (tests.eleven_quick c packet row ceiling t routers (ip_ttl packet) r b e g v f)
     by_state r v (Asked q) f =
@@ -153,8 +153,8 @@ module _ (call : RunCall) (a : Testing call) (c : Connection) (packet row : List
         a.starts c packet row ceiling t routers q (ip_ttl packet) r s ∙ sym (tests.starts c packet row ceiling t routers q (ip_ttl packet) r s)
 
     by_request : (x : Option Request) → view (length packet) packet ≡ answer (record { ttl = ip_ttl packet; request = x }) → Same
-    by_request none v = a.four c packet row ceiling t routers (ip_ttl packet) e g v ∙ sym (tests.four c packet row ceiling t routers (ip_ttl packet) e g v)
-    by_request (some r) v = by_state r v c.state refl
+    by_request None v = a.four c packet row ceiling t routers (ip_ttl packet) e g v ∙ sym (tests.four c packet row ceiling t routers (ip_ttl packet) e g v)
+    by_request (Some r) v = by_state r v c.state refl
 
     by_place : (x : Reply Place) → located (length packet) packet ≡ x → Same
     by_place (refuse n) l = a.faulty c packet row ceiling t routers n e g l ∙ sym (tests.faulty c packet row ceiling t routers n e g l)
@@ -173,15 +173,15 @@ module _ (call : RunCall) (a : Testing call) (c : Connection) (packet row : List
 -- ---- what arises
 
 -- a packet that is viewed with a request has it at a place
-place_of_lem : (packet : List ℕ) (ttl : ℕ) (r : Request) → view (length packet) packet ≡ answer (record { ttl = ttl; request = some r })
-    → (place : ℕ) × (located (length packet) packet ≡ answer (At place))
+place_of_lem : (packet : List ℕ) (ttl : ℕ) (r : Request) → view (length packet) packet ≡ answer (record { ttl = ttl; request = Some r })
+    → (place : ℕ) × (located (length packet) packet ≡ answer (Some place))
 place_of_lem packet ttl r e =
-    let v = view_place (length packet) packet (record { ttl = ttl; request = some r }) e in
+    let v = view_place (length packet) packet (record { ttl = ttl; request = Some r }) e in
     go v.0 v.1 (ap (λ (x : View). x.request) v.2)
   where
-    go : (place : Place) → located (length packet) packet ≡ answer place → some r ≡ request_at place packet → (place : ℕ) × (located (length packet) packet ≡ answer (At place))
-    go Nowhere l f = absurd (clash (cc))
-    go (At place) l f = (place, l)
+    go : (place : Place) → located (length packet) packet ≡ answer place → Some r ≡ request_at place packet → (place : ℕ) × (located (length packet) packet ≡ answer (Some place))
+    go None l f = absurd (clash (cc))
+    go (Some place) l f = (place, l)
 
 -- whatever its IP TTL, 0 among them, a packet that carries a request is lost to a 6, or comes to the receiver with a request
 record Comes (routers : List Router) (packet : List ℕ) : Type 0 where

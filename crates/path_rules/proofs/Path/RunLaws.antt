@@ -1,5 +1,5 @@
 -- Laws of the call of a run, by its tests. Assumes nothing.
-use Prim.Native.Nat.{ℕ, ◌-◌}
+use Prim.Native.Nat.{ℕ}
 use mathlib.Core.Bool.{Bool, true, false}
 use mathlib.Core.List.{List}
 use mathlib.Core.Path.{◌≡◌, sym, ap, ◌∙◌}
@@ -7,7 +7,7 @@ use Rattle.common.proofs.Choice.{chosen}
 use Rattle.common.specs.Choice.{pick}
 use Rattle.refusals.specs.Reply.{Reply, answer, refuse, leaves, and_then}
 use Rattle.sender_rules.specs.declared.Connection.{Connection}
-use Rattle.sender_rules.specs.Sender.Calls.{Transport}
+use Rattle.wire_rules.specs.declared.Transport.{Transport}
 use Rattle.path_rules.specs.declared.Router.{Router}
 use Rattle.path_rules.specs.Hops.Rows.{row_of}
 use Rattle.path_rules.specs.Path.Runs.{path_calls, journey, Run, run_by, run_in_range, run_reply, run_call, start_reply}

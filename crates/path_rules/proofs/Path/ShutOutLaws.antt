@@ -10,7 +10,9 @@ use Rattle.gateway_rules.specs.Router.Routers.{routed}
 use Rattle.sender_rules.specs.declared.Connection.{Connection}
 use Rattle.sender_rules.specs.Connections.Records.{fresh_with}
 use Rattle.sender_rules.proofs.Connections.Claims.{fresh}
-use Rattle.sender_rules.specs.Sender.Calls.{Wish, wish, Transport, transport, sender_calls, Sending}
+use Rattle.sender_rules.specs.Sender.Calls.{wish, transport, sender_calls, Sending}
+use Rattle.wire_rules.specs.declared.Transport.{Transport}
+use Rattle.sender_rules.specs.declared.Wish.{Wish}
 use Rattle.sender_rules.specs.Sender.Claims.{AskGiven}
 use Rattle.path_rules.specs.declared.Router.{Router}
 use Rattle.path_rules.specs.declared.Router.TheVariants.{Knowing, Silent}
@@ -64,7 +66,7 @@ module _ (ask : Connection → Wish → List ℕ → Outcome (Unit {0}) Sending)
       by_said (refuse n) = refl
 
 -- an accepted asking for code 2, with a starting TTL that outlasts two routers
-module _ (c : Connection) (w : Wish) (buffer packet : List ℕ) (t : Transport) (two : w.code ≡ 2) (long : 2 < w.ttl) (byte : w.qs < 256)
+module _ (c : Connection) (w : Wish) (buffer packet : List ℕ) (t : Transport) (two : w.code ≡ 2) (long : 2 < w.ttl) (byte : w.qs_ttl < 256)
     (asked : (path_calls.ask c w buffer).said ≡ answer tt) (carried : Carried (path_calls.ask c w buffer).left.request w.ttl packet) (given : TransportGiven t) where
   abbrev after : Connection
   after = (path_calls.ask c w buffer).left.connection
@@ -182,12 +184,12 @@ module _ (c : Connection) (w : Wish) (buffer packet : List ℕ) (t : Transport) 
 -- ---- a wrong asking
 
 abbrev for1 : Wish → Wish
-for1 w = wish 1 w.ttl w.qs w.nonce w.rtt w.time
+for1 w = wish 1 w.ttl w.qs_ttl w.nonce w.rtt w.time
 
 abbrev asks1 : Connection → Wish → List ℕ → Outcome (Unit {0}) Sending
 asks1 c w buffer = sender_calls.ask c (for1 w) buffer
 
-module _ (c : Connection) (w : Wish) (buffer packet : List ℕ) (t : Transport) (two : w.code ≡ 2) (long : 2 < w.ttl) (byte : w.qs < 256)
+module _ (c : Connection) (w : Wish) (buffer packet : List ℕ) (t : Transport) (two : w.code ≡ 2) (long : 2 < w.ttl) (byte : w.qs_ttl < 256)
     (asked : (path_calls.ask c (for1 w) buffer).said ≡ answer tt) (carried : Carried (path_calls.ask c (for1 w) buffer).left.request w.ttl packet) (given : TransportGiven t) where
   abbrev straight : Wish → Setting
   straight v = record {
@@ -219,7 +221,7 @@ module _ (c : Connection) (w : Wish) (buffer packet : List ℕ) (t : Transport) 
 -- ---- a walk that stops at a denial
 
 -- two routers, of which the first denies, and an IP TTL that only the first outlasts
-module _ (c : Connection) (w : Wish) (buffer packet : List ℕ) (t : Transport) (two : w.ttl ≡ 2) (byte : w.qs < 256)
+module _ (c : Connection) (w : Wish) (buffer packet : List ℕ) (t : Transport) (two : w.ttl ≡ 2) (byte : w.qs_ttl < 256)
     (asked : (path_calls.ask c w buffer).said ≡ answer tt) (carried : Carried (path_calls.ask c w buffer).left.request w.ttl packet) (given : TransportGiven t) where
   abbrev denying : Setting
   denying = record {

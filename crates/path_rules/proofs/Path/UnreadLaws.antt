@@ -17,7 +17,8 @@ use Rattle.gateway_rules.proofs.Router.Claims as routers
 use Rattle.gateway_rules.specs.Receiver.Reports.{Report, unanswered, reported, received}
 use Rattle.gateway_rules.proofs.Receiver.Claims as receivers
 use Rattle.sender_rules.specs.declared.Connection.{Connection}
-use Rattle.sender_rules.specs.Sender.Calls.{Transport, while_asked}
+use Rattle.sender_rules.specs.Sender.Calls.{while_asked}
+use Rattle.wire_rules.specs.declared.Transport.{Transport}
 use Rattle.path_rules.specs.declared.Router.{Router}
 use Rattle.path_rules.specs.declared.Router.TheVariants.{Knowing, Silent}
 use Rattle.path_rules.specs.Hops.Verdicts.{Verdict}

@@ -3,7 +3,7 @@ use Prim.Native.Nat.{ℕ, zero, suc, ◌+◌, ◌-◌, ◌≤◌}
 use mathlib.Core.Bool.{Bool, true, false}
 use mathlib.Core.List.{List, [], ◌∷◌, ◌++◌, append-nil, append_assoc}
 use mathlib.Core.Logic.{◌⊎◌, inl, inr}
-use mathlib.Core.Option.{Option, none, some}
+use Rattle.std.specs.Prelude.{Option, None, Some}
 use mathlib.Core.Path.{◌≡◌, refl, sym, ap, ap₂, subst, ◌∙◌}
 use native.Mathlib.Omega.{arith}
 use borrow.Author.Tests.{lt-ltb, le-leb, ne_eqb, eqb-true, eqb-false}
@@ -97,41 +97,41 @@ no_receiver_starts bytes f =
     f (get_or bytes 1 0) (4 ∷ get_or bytes 1 0 ∷ []) (drop 2 bytes) (record { ceiling_high = r.0; bytes_are = refl }) r.1)
 
 -- a spelling of some router is found in front
-spelt_some : (routers : List Router) (own more : List ℕ) → Spells routers own → 1 ≤ length routers → front_of (own ++ more) ≡ none → ⊥
+spelt_some : (routers : List Router) (own more : List ℕ) → Spells routers own → 1 ≤ length routers → front_of (own ++ more) ≡ None → ⊥
 spelt_some routers own more no_record h e = omega arith
 spelt_some routers own more (record_2 ceiling fresh a b c d routers' row low word s) h e =
     let here = front_knowing ceiling a b c d (row ++ more) low in clash (cc)
 spelt_some routers own more (record_3 routers' row s) h e = let here = front_silent (row ++ more) in clash (cc)
 
-no_router : (bytes : List ℕ) → front_of bytes ≡ none → NoRouter bytes
+no_router : (bytes : List ℕ) → front_of bytes ≡ None → NoRouter bytes
 no_router bytes e router own more s w = spelt_some (router ∷ []) own more s (omega arith) (sym (ap front_of w) ∙ e)
 
-no_router_front : (bytes : List ℕ) → NoRouter bytes → front_of bytes ≡ none
+no_router_front : (bytes : List ℕ) → NoRouter bytes → front_of bytes ≡ None
 no_router_front bytes f = go (front_of bytes) refl
   where
-    go : (o : Option Router) → front_of bytes ≡ o → front_of bytes ≡ none
-    go none e = e
-    go (some router) e =
+    go : (o : Option Router) → front_of bytes ≡ o → front_of bytes ≡ None
+    go None e = e
+    go (Some router) e =
         let r = found bytes router e in
         let behind = drop (length_of router) bytes in
         absurd (f router (r.own ++ []) behind (r.spells [] [] no_record) (r.in_front ∙ ap (λ (l : List ℕ). l ++ behind) (sym (append-nil r.own))))
 
 -- reading stops at the limit, or where no router's record stands
 abbrev Stopped : ℕ → Hops → Type 0
-Stopped limit hops = (length hops.routers ≡ limit) ⊎ (front_of hops.rest ≡ none)
+Stopped limit hops = (length hops.routers ≡ limit) ⊎ (front_of hops.rest ≡ None)
 
 one_more : (limit : ℕ) (router : Router) (hops : Hops) → Stopped limit hops → Stopped (suc limit) (ahead router hops)
 one_more limit router hops (inl e) = inl (omega arith)
 one_more limit router hops (inr e) = inr e
 
-pub stopped : (limit : ℕ) (bytes : List ℕ) → (length (hops_from limit bytes).routers ≡ limit) ⊎ (front_of (hops_from limit bytes).rest ≡ none)
+pub stopped : (limit : ℕ) (bytes : List ℕ) → (length (hops_from limit bytes).routers ≡ limit) ⊎ (front_of (hops_from limit bytes).rest ≡ None)
 unfolding hops_from
 stopped zero bytes = inl refl
 stopped (suc limit) bytes = go (front_of bytes) refl (λ router. stopped limit (drop (length_of router) bytes))
   where
     go : (o : Option Router) → front_of bytes ≡ o → ((router : Router) → Stopped limit (hops_from limit (drop (length_of router) bytes))) → Stopped (suc limit) (hops_from (suc limit) bytes)
-    go none e more = subst (Stopped (suc limit)) (sym (hops_end (suc limit) bytes e)) (inr e)
-    go (some router) e more =
+    go None e more = subst (Stopped (suc limit)) (sym (hops_end (suc limit) bytes e)) (inr e)
+    go (Some router) e more =
         subst (Stopped (suc limit)) (sym (hops_next limit bytes router e)) (one_more limit router (hops_from limit (drop (length_of router) bytes)) (more router))
 
 -- ---- from spellings to the reading
@@ -149,7 +149,7 @@ unfolding read_plan
 by_tests limit input hops s r e p q u v = rw (p, q, u, v) refl
 
 -- a receiver's record is no router's, and with more behind it its length is not 2
-receiver_front : (ceiling : ℕ) (more : List ℕ) → front_of (4 ∷ ceiling ∷ more) ≡ none
+receiver_front : (ceiling : ℕ) (more : List ℕ) → front_of (4 ∷ ceiling ∷ more) ≡ None
 unfolding front_of is_knowing
 receiver_front ceiling more = refl
 
@@ -161,7 +161,7 @@ abbrev plan_with : Plan → ℕ → ℕ → Plan
 plan_with p nonce ceiling = record { code = p.code; ttl = p.ttl; qs = p.qs; nonce = nonce; routers = p.routers; ceiling = ceiling }
 
 -- behind a spelled front the two tests of the rest decide
-after_front : (limit : ℕ) (p : Plan) (front rest : List ℕ) (r e : Bool) → SpellsFront limit p front → (length p.routers ≡ limit) ⊎ (front_of rest ≡ none)
+after_front : (limit : ℕ) (p : Plan) (front rest : List ℕ) (r e : Bool) → SpellsFront limit p front → (length p.routers ≡ limit) ⊎ (front_of rest ≡ None)
     → starts_receiver rest ≡ r → eqb (length rest) 2 ≡ e → read_plan limit (front ++ rest) ≡ decided (plan_with p p.nonce (get_or rest 1 0)) (length front) r e
 after_front limit p front rest r e f end u v =
     let q = f.request_is in
@@ -188,7 +188,7 @@ unfolding read_plan
 broken limit front rest (at_request _ f) = rw (no_request_starts rest f) refl
 broken limit front rest (at_hop p _ _ s f end) = after_front limit p front rest false (eqb (length rest) 2) s (ended end) (no_receiver_starts rest f) refl
   where
-    ended : (length p.routers ≡ limit) ⊎ NoRouter rest → (length p.routers ≡ limit) ⊎ (front_of rest ≡ none)
+    ended : (length p.routers ≡ limit) ⊎ NoRouter rest → (length p.routers ≡ limit) ⊎ (front_of rest ≡ None)
     ended (inl e) = inl e
     ended (inr f) = inr (no_router_front rest f)
 broken limit front rest (at_end p _ _ s more) =
@@ -226,10 +226,10 @@ module _ (limit : ℕ) (input front rest : List ℕ) (p : Plan) (f : SpellsFront
   offset_of_lem : length front ≡ length input - length rest
   offset_of_lem = let long = ap length whole ∙ length-append front rest in omega arith
 
-  told_hop : starts_receiver rest ≡ false → (length p.routers ≡ limit) ⊎ (front_of rest ≡ none) → BadAt limit input (length input - length rest)
+  told_hop : starts_receiver rest ≡ false → (length p.routers ≡ limit) ⊎ (front_of rest ≡ None) → BadAt limit input (length input - length rest)
   told_hop e end = record { front = front; rest = rest; whole = whole; offset = offset_of_lem; breaks = at_hop p front rest f (no_receiver rest e) (ended end) }
     where
-      ended : (length p.routers ≡ limit) ⊎ (front_of rest ≡ none) → (length p.routers ≡ limit) ⊎ NoRouter rest
+      ended : (length p.routers ≡ limit) ⊎ (front_of rest ≡ None) → (length p.routers ≡ limit) ⊎ NoRouter rest
       ended (inl e) = inl e
       ended (inr e) = inr (no_router rest e)
 

@@ -1,10 +1,9 @@
 -- What the program's own run is given: its asking is accepted, and the run is one of demand 3. Assumes nothing.
-use Prim.Native.Nat.{ℕ, ◌-◌}
+use Prim.Native.Nat.{ℕ}
 use mathlib.Core.Path.{◌≡◌, refl}
 use native.Mathlib.Omega.{arith}
 use Rattle.refusals.specs.Reply.{answer}
 use Rattle.sender_rules.specs.Connections.Records.{fresh_with}
-use Rattle.sender_rules.specs.Sender.Calls.{wish}
 use Rattle.sender_rules.specs.Sender.Claims.{AskGiven}
 use Rattle.sender_rules.proofs.Sender.Claims.{stays_in_range}
 use Rattle.sender_rules.proofs.Connections.Claims.{fresh}

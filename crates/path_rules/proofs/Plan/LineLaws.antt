@@ -73,7 +73,7 @@ module _ (limit : ℕ) (p : Plan) (input : List ℕ) (all : Bytes input) (read :
       ∙ (λ i. verdict_line (verdict_of (summary_of (sym routers i)) (sym ttl i) (sym code i) (sym ceiling i)))
       ∙ ap verdict_line (sym (path_law.summary g d))
 
-  some_run : (g : Setting) × Demanded path_calls g × (g.routers ≡ p.routers) × (g.wish.ttl ≡ p.ttl) × (g.wish.code ≡ p.code) × (g.wish.qs ≡ p.qs) × (g.wish.nonce ≡ p.nonce) × (g.ceiling ≡ p.ceiling)
+  some_run : (g : Setting) × Demanded path_calls g × (g.routers ≡ p.routers) × (g.wish.ttl ≡ p.ttl) × (g.wish.code ≡ p.code) × (g.wish.qs_ttl ≡ p.qs) × (g.wish.nonce ≡ p.nonce) × (g.ceiling ≡ p.ceiling)
   some_run = (given_for p, asked, refl, refl, refl, refl, refl, refl)
 
 -- the lines of which one is a good input's

@@ -1,6 +1,6 @@
 -- Demand 3 of the calls over a row of hop records, and the calls that it shuts out. Which rows are read, the two calls, and that the two
 -- forms agree, stand in RowClaims; the calls for C in ResultClaims. Assumes nothing.
-use Prim.Native.Nat.{ℕ, ◌+◌, ◌≤◌}
+use Prim.Native.Nat.{ℕ, ◌≤◌}
 use mathlib.Core.List.{List, [], ◌∷◌, ◌++◌}
 use mathlib.Core.Path.{◌≡◌, refl, sym, ap, ap₂, subst, ◌∙◌}
 use native.Mathlib.Omega.{arith}

@@ -3,7 +3,8 @@ use Prim.Native.Nat.{ℕ, ◌+◌, ◌≤◌, ◌<◌}
 use mathlib.Core.List.Permᴰ
 use mathlib.Core.List.{List}
 use mathlib.Core.Logic.{◌⊎◌, inl, inr}
-use mathlib.Core.Option.{Option, none, some}
+use Rattle.std.specs.Prelude.{Option, None, Some}
+use Rattle.wire_rules.specs.Walk.Walks.{Place}
 use mathlib.Core.Path.{◌≡◌, refl, sym, ap, subst, ◌∙◌}
 use native.Mathlib.Omega.{arith}
 use borrow.Author.Tests.{ne_eqb}
@@ -15,7 +16,6 @@ use Rattle.refusals.proofs.ReplyLaws.{RefusedBy}
 use Rattle.wire_rules.specs.declared.Request.{Request}
 use Rattle.wire_rules.specs.Options.Responses.{ttl_diff}
 use Rattle.wire_rules.proofs.Options.Claims.{ttl_diffs}
-use Rattle.wire_rules.specs.declared.Place.{Place}
 use Rattle.wire_rules.specs.Ipv4.Headers.{ip_ttl}
 use Rattle.wire_rules.specs.Ipv4.Packets.{located}
 use Rattle.wire_rules.specs.Ipv4.Views.{request_at, view}
@@ -29,7 +29,7 @@ use Rattle.sender_rules.specs.declared.Before.{Before}
 use Rattle.sender_rules.specs.declared.Connection.{Connection}
 use Rattle.sender_rules.specs.Connections.Claims.{InRange}
 use Rattle.sender_rules.proofs.Connections.Claims.{fresh}
-use Rattle.sender_rules.specs.Sender.Calls.{Transport}
+use Rattle.wire_rules.specs.declared.Transport.{Transport}
 use Rattle.path_rules.specs.declared.Router.{Router}
 use Rattle.path_rules.specs.declared.Summary.{Summary}
 use Rattle.path_rules.specs.Hops.Rows.{row_of}
@@ -128,7 +128,7 @@ module _ (P : ℕ → Type 0) (refusable : (n : ℕ) → Refusable n → P n) wh
       by_refusal n h r = subst (CanBe P) (sym (ap (λ (o : Outcome Verdict Journey). o.said) r)) h
 
       module _ (g : InRanges c ceiling t) where
-        by_state : (r : Request) → view (length packet) packet ≡ answer (record { ttl = ip_ttl packet; request = some r }) → (s : State) → c.state ≡ s → Can
+        by_state : (r : Request) → view (length packet) packet ≡ answer (record { ttl = ip_ttl packet; request = Some r }) → (s : State) → c.state ≡ s → Can
         by_state r v Idle f = by_refusal 11 (eleven (inl f)) (running.tests.eleven_idle c packet row ceiling t routers (ip_ttl packet) r e g v f)
         by_state r v (Quick b) f = by_refusal 11 (eleven (inr (b, f))) (running.tests.eleven_quick c packet row ceiling t routers (ip_ttl packet) r b e g v f)
         by_state r v (Asked q) f =
@@ -137,8 +137,8 @@ module _ (P : ℕ → Type 0) (refusable : (n : ℕ) → Refusable n → P n) wh
             (arisen routers packet (run_by path_calls c t ceiling routers packet).verdict (running.arises c packet row ceiling t routers q (ip_ttl packet) r bytes row_bytes s))
 
         by_request : (x : Option Request) → view (length packet) packet ≡ answer (record { ttl = ip_ttl packet; request = x }) → Can
-        by_request none v = by_refusal 4 (early 4 (omega arith) (omega arith)) (running.tests.four c packet row ceiling t routers (ip_ttl packet) e g v)
-        by_request (some r) v = by_state r v c.state refl
+        by_request None v = by_refusal 4 (early 4 (omega arith) (omega arith)) (running.tests.four c packet row ceiling t routers (ip_ttl packet) e g v)
+        by_request (Some r) v = by_state r v c.state refl
 
         by_place : (x : Reply Place) → located (length packet) packet ≡ x → Can
         by_place (refuse n) l =
@@ -185,7 +185,7 @@ module _ (g : Setting) (hops : List Hop) (l : Lent g hops) where
   d = l.demanded
 
   abbrev own : Connection
-  own = open_for g.wish.code (ttl_diff g.wish.ttl g.wish.qs) g.wish.nonce
+  own = open_for g.wish.code (ttl_diff g.wish.ttl g.wish.qs_ttl) g.wish.nonce
 
   -- the same setting with that record, and T, MSS and H of our own
   abbrev ours : Setting
@@ -203,7 +203,7 @@ module _ (g : Setting) (hops : List Hop) (l : Lent g hops) where
   same_state : own.state ≡ (path_calls.ask g.connection g.wish g.buffer).left.connection.state
   same_state =
       let ttl : g.wish.ttl < 256 = omega (arith, (given g d).ttl_high) in
-      let diff = ttl_diffs.only g.wish.ttl g.wish.qs (sent g d).diff ttl d.qs_byte (sent g d).diff_byte (sent g d).diff_is in
+      let diff = ttl_diffs.only g.wish.ttl g.wish.qs_ttl (sent g d).diff ttl d.qs_byte (sent g d).diff_byte (sent g d).diff_is in
       ap (λ (n : ℕ). Asked (record { code = g.wish.code; ttl_diff = n; nonce = g.wish.nonce })) (sym diff) ∙ sym (ap (λ (c : Connection). c.state) (sent g d).connection_is)
 
   lent_for_c : Lent ours hops
@@ -213,7 +213,7 @@ module _ (g : Setting) (hops : List Hop) (l : Lent g hops) where
       asked = d.asked;
       carried = d.carried;
       still_open = same_state;
-      waiting_in = own_in g.wish.code (ttl_diff g.wish.ttl g.wish.qs) g.wish.nonce (given g d).code_low (given g d).code_high (given g d).nonce_high;
+      waiting_in = own_in g.wish.code (ttl_diff g.wish.ttl g.wish.qs_ttl) g.wish.nonce (given g d).code_low (given g d).code_high (given g d).nonce_high;
       transport_given = record {
         rtt_low = omega arith;
         rtt_high = omega arith;

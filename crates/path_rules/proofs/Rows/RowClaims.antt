@@ -16,7 +16,7 @@ use Rattle.refusals.proofs.ReplyLaws.{same_answer}
 use Rattle.wire_rules.specs.Rates.Steps.{top_code}
 use Rattle.wire_rules.specs.Options.Wire.{nonce_limit}
 use Rattle.sender_rules.specs.declared.Connection.{Connection}
-use Rattle.sender_rules.specs.Sender.Calls.{Transport}
+use Rattle.wire_rules.specs.declared.Transport.{Transport}
 use Rattle.path_rules.specs.declared.Router.{Router}
 use Rattle.path_rules.specs.declared.Router.TheVariants.{Knowing, Silent}
 use Rattle.path_rules.specs.Hops.Rows.{row_of}

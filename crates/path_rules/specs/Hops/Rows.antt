@@ -1,6 +1,6 @@
 -- Rows of hops as bytes (document 01, "Path, program and callers"): the program's records of kinds 2 and 3. Assumes nothing.
 use Rattle.std.specs.Prelude.{ℕ, zero, suc, ◌+◌, ◌/◌, Bool, ◌&&◌, List, [], ◌∷◌, leb, eqb, length, get_or, drop}
-use Rattle.std.proofs.Math.Option.{Option, none, some}
+use Rattle.std.specs.Prelude.{Option, None, Some}
 use Rattle.common.specs.Choice.{pick}
 use Rattle.refusals.specs.Reply.{Reply, answer, refuse}
 use Rattle.wire_rules.specs.Rates.Steps.{top_code}
@@ -45,8 +45,8 @@ is_knowing bytes = eqb (get_or bytes 0 0) knowing_kind && leb knowing_length (le
 -- the router whose record stands in front of some bytes, if a good one does; where there are no bytes, the kind reads as 0
 unfoldable pub front_of : List ℕ → Option Router
 front_of bytes =
-    pick (eqb (get_or bytes 0 0) silent_kind) (some Silent)
-    (pick (is_knowing bytes) (some (Knowing (get_or bytes 1 0) (nonce_at 2 bytes))) none)
+    pick (eqb (get_or bytes 0 0) silent_kind) (Some Silent)
+    (pick (is_knowing bytes) (Some (Knowing (get_or bytes 1 0) (nonce_at 2 bytes))) None)
 
 -- the routers whose records stand in front of some bytes, and the bytes behind them
 pub record Hops : Type 0 where
@@ -60,8 +60,8 @@ abbrev pub ahead : Router → Hops → Hops
 ahead router hops = record { routers = router ∷ hops.routers; rest = hops.rest }
 
 abbrev pub go_on : List ℕ → Option Router → (Router → Hops) → Hops
-go_on bytes none next = no_hops bytes
-go_on bytes (some router) next = ahead router (next router)
+go_on bytes None next = no_hops bytes
+go_on bytes (Some router) next = ahead router (next router)
 
 -- as many as there are, but no more than `limit`
 unfoldable pub hops_from : ℕ → List ℕ → Hops

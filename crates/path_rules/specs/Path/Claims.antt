@@ -3,13 +3,12 @@
 -- something to run. Ranges are the paper's numbers. Assumes nothing.
 use Rattle.std.specs.Prelude.{ℕ, ◌≤◌, ◌<◌, min, ◌⊎◌, ◌≡◌, eqb, length, get_or, take, drop}
 use mathlib.Core.List.{List, [], ◌∷◌, ◌++◌, Permᴰ}
-use Rattle.std.proofs.Math.Option.{none, some}
+use Rattle.std.specs.Prelude.{None, Some}
 use Rattle.common.specs.Choice.{pick}
 use Rattle.common.specs.Lists.{Bytes}
 use Rattle.refusals.specs.Reply.{Reply, answer, refuse, and_then, Outcome, answering, refusing}
 use Rattle.wire_rules.specs.declared.Request.{Request}
 use Rattle.wire_rules.specs.declared.Response.{Response}
-use Rattle.wire_rules.specs.declared.Place.TheVariants.{At}
 use Rattle.wire_rules.specs.Ipv4.Packets.{located}
 use Rattle.wire_rules.specs.Ipv4.Views.{view}
 use Rattle.wire_rules.specs.Ipv4.Claims.{SameHeader, LeftAlike}
@@ -24,7 +23,9 @@ use Rattle.sender_rules.specs.declared.State.TheVariants.{Idle, Asked, Quick}
 use Rattle.sender_rules.specs.declared.Connection.{Connection}
 use Rattle.sender_rules.specs.Connections.Records.{fresh_with}
 use Rattle.sender_rules.specs.Connections.Claims.{InRange}
-use Rattle.sender_rules.specs.Sender.Calls.{Wish, wish, Transport, Sending, sender_calls}
+use Rattle.sender_rules.specs.Sender.Calls.{wish, Sending, sender_calls}
+use Rattle.wire_rules.specs.declared.Transport.{Transport}
+use Rattle.sender_rules.specs.declared.Wish.{Wish}
 use Rattle.sender_rules.specs.Sender.Claims.{AskGiven}
 use Rattle.path_rules.specs.declared.Router.{Router}
 use Rattle.path_rules.specs.declared.Router.TheVariants.{Knowing, Silent}
@@ -43,7 +44,7 @@ use Rattle.path_rules.specs.Path.Demands.{Setting, verdict_by, plain}
 pub record Carried (option : List ℕ) (ttl : ℕ) (packet : List ℕ) : Type 0 where
   pub bytes : Bytes packet
   pub place : ℕ
-  pub faultless : located (length packet) packet ≡ answer (At place)
+  pub faultless : located (length packet) packet ≡ answer (Some place)
   pub written : take 8 (drop place packet) ≡ option
   pub starts : get_or packet 8 0 ≡ ttl
 
@@ -60,7 +61,7 @@ pub record TransportGiven (t : Transport) : Type 0 where
 -- comes "while that request is open", to a record in the state that asking left; and "all numbers in their ranges". Of the list of routers
 -- there is no limit
 pub record Demanded (calls : Calls) (g : Setting) : Type 0 where
-  pub qs_byte : g.wish.qs < 256
+  pub qs_byte : g.wish.qs_ttl < 256
   pub asked : (calls.ask g.connection g.wish g.buffer).said ≡ answer tt
   pub carried : Carried (calls.ask g.connection g.wish g.buffer).left.request g.wish.ttl g.packet
   pub still_open : g.waiting.state ≡ (calls.ask g.connection g.wish g.buffer).left.connection.state
@@ -135,7 +136,7 @@ pub record NotEmpty (calls : Calls) : Type 0 where
   -- from a fresh record every asking with numbers in range is accepted
   pub asks : (window ssthresh : ℕ) (w : Wish) (buffer : List ℕ) → AskGiven (fresh_with window ssthresh) w buffer → (calls.ask (fresh_with window ssthresh) w buffer).said ≡ answer tt
   -- and for the eight bytes that any accepted asking wrote, with whatever starting TTL, there is a packet that carries them
-  pub packets : (c : Connection) (w : Wish) (buffer : List ℕ) → w.qs < 256 → (calls.ask c w buffer).said ≡ answer tt
+  pub packets : (c : Connection) (w : Wish) (buffer : List ℕ) → w.qs_ttl < 256 → (calls.ask c w buffer).said ≡ answer tt
       → Carried (calls.ask c w buffer).left.request w.ttl (plain w.ttl (calls.ask c w buffer).left.request)
 
 -- ---- demand 3
@@ -177,7 +178,7 @@ pub record InRanges (c : Connection) (ceiling : ℕ) (t : Transport) : Type 0 wh
 pub record Starts (c : Connection) (packet row : List ℕ) (ceiling : ℕ) (t : Transport) (routers : List Router) (q : OpenRequest) (ttl : ℕ) (r : Request) : Type 0 where
   pub row_is : row_of 64 row ≡ answer routers
   pub ranges : InRanges c ceiling t
-  pub viewed : view (length packet) packet ≡ answer (record { ttl = ttl; request = some r })
+  pub viewed : view (length packet) packet ≡ answer (record { ttl = ttl; request = Some r })
   pub waits : c.state ≡ Asked q
 
 -- 7 for all numbers and the row, then 1, 2, 3, 5 and 4 on the packet as lent, then 11: a refused run leaves packet and record
@@ -188,11 +189,11 @@ pub record Testing (call : RunCall) : Type 0 where
   pub faulty : (c : Connection) (packet row : List ℕ) (ceiling : ℕ) (t : Transport) (routers : List Router) (n : ℕ) → row_of 64 row ≡ answer routers → InRanges c ceiling t
       → located (length packet) packet ≡ refuse n → call c packet row ceiling t ≡ refusing n (journey packet c)
   pub four : (c : Connection) (packet row : List ℕ) (ceiling : ℕ) (t : Transport) (routers : List Router) (ttl : ℕ) → row_of 64 row ≡ answer routers → InRanges c ceiling t
-      → view (length packet) packet ≡ answer (record { ttl = ttl; request = none }) → call c packet row ceiling t ≡ refusing 4 (journey packet c)
+      → view (length packet) packet ≡ answer (record { ttl = ttl; request = None }) → call c packet row ceiling t ≡ refusing 4 (journey packet c)
   pub eleven_idle : (c : Connection) (packet row : List ℕ) (ceiling : ℕ) (t : Transport) (routers : List Router) (ttl : ℕ) (r : Request) → row_of 64 row ≡ answer routers
-      → InRanges c ceiling t → view (length packet) packet ≡ answer (record { ttl = ttl; request = some r }) → c.state ≡ Idle → call c packet row ceiling t ≡ refusing 11 (journey packet c)
+      → InRanges c ceiling t → view (length packet) packet ≡ answer (record { ttl = ttl; request = Some r }) → c.state ≡ Idle → call c packet row ceiling t ≡ refusing 11 (journey packet c)
   pub eleven_quick : (c : Connection) (packet row : List ℕ) (ceiling : ℕ) (t : Transport) (routers : List Router) (ttl : ℕ) (r : Request) (b : Before) → row_of 64 row ≡ answer routers
-      → InRanges c ceiling t → view (length packet) packet ≡ answer (record { ttl = ttl; request = some r }) → c.state ≡ Quick b → call c packet row ceiling t ≡ refusing 11 (journey packet c)
+      → InRanges c ceiling t → view (length packet) packet ≡ answer (record { ttl = ttl; request = Some r }) → c.state ≡ Quick b → call c packet row ceiling t ≡ refusing 11 (journey packet c)
   -- any other run is that of demand 3's predicate
   pub starts : (c : Connection) (packet row : List ℕ) (ceiling : ℕ) (t : Transport) (routers : List Router) (q : OpenRequest) (ttl : ℕ) (r : Request)
       → Starts c packet row ceiling t routers q ttl r
@@ -331,7 +332,7 @@ pub record ShutOut : Type 0 where
   -- "a sender that always says code 1": whenever it accepts, and whatever it leaves; or that always asks for code 1
   pub always_code_1 : (take : Connection → List ℕ → Transport → Outcome ℕ Connection)
       → ((c : Connection) (response : List ℕ) (t : Transport) (rate : ℕ) → (take c response t).said ≡ answer rate → rate ≡ 1) → Accepting (taking take) → ⊥
-  pub always_asks_1 : Accepting (asking (λ c w buffer. sender_calls.ask c (wish 1 w.ttl w.qs w.nonce w.rtt w.time) buffer)) → ⊥
+  pub always_asks_1 : Accepting (asking (λ c w buffer. sender_calls.ask c (wish 1 w.ttl w.qs_ttl w.nonce w.rtt w.time) buffer)) → ⊥
   -- "a path walk that asks the first router and lets the others pass"
   pub first_only_lem : Accepting (travelling first_only) → ⊥
   pub first_then_silent_lem : Accepting (travelling first_then_silent) → ⊥

@@ -2,7 +2,8 @@
 use Rattle.std.specs.Prelude.{ℕ, List, [], ◌∷◌, ◌++◌}
 use Rattle.wire_rules.specs.Ipv4.Checksums.{sealed}
 use Rattle.sender_rules.specs.declared.Connection.{Connection}
-use Rattle.sender_rules.specs.Sender.Calls.{Wish, Transport}
+use Rattle.wire_rules.specs.declared.Transport.{Transport}
+use Rattle.sender_rules.specs.declared.Wish.{Wish}
 use Rattle.path_rules.specs.declared.Router.{Router}
 use Rattle.path_rules.specs.Hops.Verdicts.{Verdict}
 use Rattle.path_rules.specs.Path.Runs.{Calls, run_by}

@@ -1,7 +1,8 @@
 -- The sender that the program qspath and the calls for C run a path with, where nobody lends a connection. Document 01 leaves its five
 -- numbers open; no verdict depends on them. Assumes nothing.
 use Rattle.std.specs.Prelude.{ℕ}
-use Rattle.sender_rules.specs.Sender.Calls.{Transport, transport}
+use Rattle.sender_rules.specs.Sender.Calls.{transport}
+use Rattle.wire_rules.specs.declared.Transport.{Transport}
 
 -- its window and ssthresh, and its T, MSS and H
 abbrev pub window : ℕ

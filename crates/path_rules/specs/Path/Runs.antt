@@ -1,7 +1,7 @@
 -- The run of a path (document 01, "Path, program and callers"): the hops' travel to a packet or "lost", then receiver and sender. It is
 -- told for any calls, so that a claim about it can be made of ours and of others. Assumes nothing.
 use Rattle.std.specs.Prelude.{ℕ, Bool, ◌&&◌, List, [], ◌∷◌, leb, length, replicate}
-use Rattle.std.proofs.Math.Option.{Option, none, some}
+use Rattle.std.specs.Prelude.{Option, None, Some}
 use Rattle.common.specs.Choice.{pick}
 use Rattle.refusals.specs.Reply.{Reply, answer, refuse, leaves, and_then, Outcome, answering, refusing}
 use Rattle.wire_rules.specs.Rates.Steps.{top_code}
@@ -13,7 +13,9 @@ use Rattle.gateway_rules.specs.Router.Routers.{routed, silently_routed}
 use Rattle.gateway_rules.specs.Receiver.Reports.{Report, unanswered, reported, received, response_after}
 use Rattle.sender_rules.specs.declared.Connection.{Connection}
 use Rattle.sender_rules.specs.Connections.Records.{in_range}
-use Rattle.sender_rules.specs.Sender.Calls.{Wish, Transport, Sending, while_asked, sender_calls}
+use Rattle.sender_rules.specs.Sender.Calls.{Sending, while_asked, sender_calls}
+use Rattle.wire_rules.specs.declared.Transport.{Transport}
+use Rattle.sender_rules.specs.declared.Wish.{Wish}
 use Rattle.path_rules.specs.declared.Router.{Router}
 use Rattle.path_rules.specs.declared.Router.TheVariants.{Knowing, Silent}
 use Rattle.path_rules.specs.Hops.Rows.{row_of}
@@ -114,8 +116,8 @@ run_in_range c ceiling t = leb ceiling top_code && transport_in_range t.rtt t.ms
 
 -- 4 where the packet carries no request
 abbrev pub where_asked : {A : Type 0} → Option Request → Reply A → Reply A
-where_asked none reply = refuse 4
-where_asked (some r) reply = reply
+where_asked None reply = refuse 4
+where_asked (Some r) reply = reply
 
 -- the tests of the packet as lent, 1, 2, 3, 5 and 4, then that of the record's state, 11
 abbrev pub start_reply : Connection → List ℕ → Reply (Unit {0})

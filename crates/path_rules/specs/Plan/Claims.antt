@@ -160,7 +160,7 @@ pub record Line : Type 0 where
       → g.wish.ttl ≡ p.ttl → g.wish.code ≡ p.code → g.ceiling ≡ p.ceiling → line_of limit input ≡ verdict_line (verdict_by path_calls g)
   -- and there is such a run
   pub some_run : (limit : ℕ) (p : Plan) (input : List ℕ) → Bytes input → read_plan limit input ≡ good p
-      → (g : Setting) × Demanded path_calls g × (g.routers ≡ p.routers) × (g.wish.ttl ≡ p.ttl) × (g.wish.code ≡ p.code) × (g.wish.qs ≡ p.qs) × (g.wish.nonce ≡ p.nonce) × (g.ceiling ≡ p.ceiling)
+      → (g : Setting) × Demanded path_calls g × (g.routers ≡ p.routers) × (g.wish.ttl ≡ p.ttl) × (g.wish.code ≡ p.code) × (g.wish.qs_ttl ≡ p.qs) × (g.wish.nonce ≡ p.nonce) × (g.ceiling ≡ p.ceiling)
   -- the verdict is that of the summary
   pub of_summary : (limit : ℕ) (p : Plan) (input : List ℕ) → Bytes input → read_plan limit input ≡ good p
       → line_of limit input ≡ verdict_line (verdict_of (summary_of p.routers) p.ttl p.code p.ceiling)

@@ -2,7 +2,8 @@
 use Rattle.std.specs.Prelude.{ℕ, zero, suc, ◌+◌, ◌/◌, ◌%◌, List, [], ◌∷◌, ◌++◌, ltb}
 use Rattle.common.specs.Choice.{pick}
 use Rattle.sender_rules.specs.Connections.Records.{fresh_with}
-use Rattle.sender_rules.specs.Sender.Calls.{Wish, wish, Sending}
+use Rattle.sender_rules.specs.Sender.Calls.{wish, Sending}
+use Rattle.sender_rules.specs.declared.Wish.{Wish}
 use Rattle.path_rules.specs.Hops.Verdicts.{Verdict, lost, unanswered, not_accepted, accepted}
 use Rattle.path_rules.specs.Path.Runs.{path_calls, blank}
 use Rattle.path_rules.specs.Path.OwnSender.{window, ssthresh, round_trip, own_transport}

@@ -9,7 +9,7 @@ use Rattle.wire_rules.specs.Ipv4.Claims.{SameHeader}
 use Rattle.sender_rules.specs.declared.State.TheVariants.{Asked}
 use Rattle.sender_rules.specs.declared.Connection.{Connection}
 use Rattle.sender_rules.specs.Connections.Claims.{InRange}
-use Rattle.sender_rules.specs.Sender.Calls.{Transport}
+use Rattle.wire_rules.specs.declared.Transport.{Transport}
 use Rattle.path_rules.specs.declared.Router.{Router}
 use Rattle.path_rules.specs.declared.Router.TheVariants.{Knowing, Silent}
 use Rattle.path_rules.specs.declared.Summary.{Summary}
@@ -222,7 +222,7 @@ pub record ForC : Type 0 where
   pub apart : (a b : Reply Verdict) → CanBe RefusableOr11 a → CanBe RefusableOr11 b → verdict_result a ≡ verdict_result b → a ≡ b
   -- of a row in range the run over the record that is made for C says demand 3's verdict: its window, T, MSS and H do not matter
   pub law : (g : Setting) (hops : List Hop) → Lent g hops
-      → (hops_call 64 (open_for g.wish.code (ttl_diff g.wish.ttl g.wish.qs) g.wish.nonce) g.packet hops g.ceiling own_transport).said ≡ answer (verdict_by path_calls g)
+      → (hops_call 64 (open_for g.wish.code (ttl_diff g.wish.ttl g.wish.qs_ttl) g.wish.nonce) g.packet hops g.ceiling own_transport).said ≡ answer (verdict_by path_calls g)
   -- no byte behind the header is read or changed
   pub header_only_lem : (c : Connection) (p q : List ℕ) (hops : List Hop) (ceiling : ℕ) (t : Transport) → SameHeader p q
       → AlikeRuns p q (hops_call 64 c p hops ceiling t) (hops_call 64 c q hops ceiling t)

@@ -11,7 +11,7 @@ use Rattle.path_rules.specs.declared.Summary.{Summary}
 use Rattle.path_rules.specs.Hops.Summaries.{summary_over}
 use Rattle.path_rules.specs.Hops.Verdicts.{Verdict}
 use Rattle.sender_rules.specs.declared.Connection.{Connection}
-use Rattle.sender_rules.specs.Sender.Calls.{Transport}
+use Rattle.wire_rules.specs.declared.Transport.{Transport}
 use Rattle.path_rules.specs.Path.Runs.{Journey, call_over}
 use Rattle.path_rules.specs.declared.Hop.{Hop}
 

@@ -1,21 +1,8 @@
--- `rows::spell` meets its contract: a turn takes one hop over from what is left, and at the end nothing is left. Assumes nothing.
-use Rattle.std.proofs.Common.{◌+◌, drop, sym, ap, ◌∙◌, arith}
-use Rattle.rows.specs.declared.Spelled.{Spelled}
-use Rattle.rows.specs.Parts.{gathered}
-use Rattle.rows.proofs.GatherLaws.{turned, over}
+-- `rows::spell` meets its contract: the record of the next hop stands behind those before it. Assumes nothing.
+use mathlib.Core.Path.{sym, ◌∙◌}
+use Rattle.rows.proofs.SpellLaws.{goes_on}
 use Rattle.rows.proofs.spell.Goals as goal
 
-pub loop-i-preserved : goal.loop-i-preserved
-loop-i-preserved c =
-    let row = c.args.row.now in
-    let i = c.loop-i.i in
-    record {
-      inside = omega arith;
-      gathers =
-          ap (λ (w : Spelled). gathered w (drop (i + 1) row)) c.with_hop-sofar.ensures
-          ∙ sym (turned row i c.loop-i.sofar c.loop-i-test.true)
-          ∙ c.loop-i.invariant.gathers;
-    }
-
-pub returns : goal.returns
-returns c = sym (over c.args.row.now c.loop-i.i c.loop-i.sofar c.loop-i-test.false) ∙ c.loop-i.invariant.gathers
+pub loop-hop-preserved : goal.loop-hop-preserved
+loop-hop-preserved c =
+    goes_on _ _ _ c.loop-hop.invariant c.loop-hop-test.true _ (sym c.hop_in_range.ensures ∙ c.if-not-hop_in_range.false) c.put_hop.ensures

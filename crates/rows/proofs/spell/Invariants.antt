@@ -1,11 +1,6 @@
--- `rows::spell` meets its contract: the loop's state is i, what was spelled so far, and that gathering what is left gives the whole row's.
--- Assumes nothing.
-use Rattle.std.proofs.Common.{◌≡◌, ◌-◌, ◌≤◌, length, drop}
-use Rattle.rows.specs.Parts.{gathered}
+-- `rows::spell` meets its contract: the records so far, and those of the hops that are left, are those of the row. Assumes nothing.
+use Rattle.rows.proofs.SpellLaws.{Underway}
 use Rattle.rows.proofs.spell.Given as goal
 
-abbrev pub invariant-loop-i : goal.invariant-loop-i
-invariant-loop-i l = record { inside : l.i ≤ length l.row; gathers : gathered l.sofar (drop l.i l.row) ≡ gathered l.fn.sofar l.row }
-
-abbrev pub decreases-loop-i : goal.decreases-loop-i
-decreases-loop-i l = length l.row - l.i
+abbrev pub invariant-loop-hop : goal.invariant-loop-hop
+invariant-loop-hop l = Underway l.row l.hop-index l.records.items

@@ -8,10 +8,9 @@ use Rattle.common.specs.Choice.{within}
 use Rattle.common.proofs.Choice.{clash, not_both, untrue, tested, both_true, within_low, within_high, in_within, not_within, le_or_gt}
 use Rattle.refusals.specs.Reply.{Reply, answer, refuse, refusing, answering}
 use Rattle.wire_rules.specs.Rates.Window.{largest_segment}
-use Rattle.sender_rules.specs.declared.Mark.{Mark}
-use Rattle.sender_rules.specs.declared.Mark.TheVariants.{Absent, At}
+use Rattle.std.specs.Prelude.{None, Some}
 use Rattle.sender_rules.specs.declared.Connection.{Connection}
-use Rattle.sender_rules.specs.Connections.Records.{in_range, with_window, with_ssthresh}
+use Rattle.sender_rules.specs.Connections.Records.{in_range, with_window, with_ssthresh, Mark}
 use Rattle.sender_rules.specs.Connections.Claims.{InRange}
 use Rattle.sender_rules.proofs.Connections.Claims.{ranges}
 use Rattle.sender_rules.proofs.Connections.PartLaws.{window_part, ssthresh_part, mark_part}
@@ -51,23 +50,23 @@ module _ (c : Connection) (ack highest mss : ℕ) where
   reacts g e = by_ahead g true e
 
 -- at the mark, ahead of it, and behind it
-at_mark : (mark : ℕ) → mark < 4294967296 → is_ahead mark (At mark) ≡ false
+at_mark : (mark : ℕ) → mark < 4294967296 → is_ahead mark (Some mark) ≡ false
 unfolding is_ahead
 at_mark mark m = not_within 1 _ (2 ^ 31 - 1) (λ p. absurd (omega (arith, p.0)))
 
-ahead_true : (ack mark by : ℕ) → mark < 4294967296 → 1 ≤ by → by ≤ 2147483647 → (mark + by) % 4294967296 ≡ ack → is_ahead ack (At mark) ≡ true
+ahead_true : (ack mark by : ℕ) → mark < 4294967296 → 1 ≤ by → by ≤ 2147483647 → (mark + by) % 4294967296 ≡ ack → is_ahead ack (Some mark) ≡ true
 unfolding is_ahead
 ahead_true ack mark by m l h e = in_within 1 _ (2 ^ 31 - 1) (omega arith) (omega arith)
 
-behind_false : (ack mark by : ℕ) → mark < 4294967296 → 2147483648 ≤ by → by < 4294967296 → (mark + by) % 4294967296 ≡ ack → is_ahead ack (At mark) ≡ false
+behind_false : (ack mark by : ℕ) → mark < 4294967296 → 2147483648 ≤ by → by < 4294967296 → (mark + by) % 4294967296 ≡ ack → is_ahead ack (Some mark) ≡ false
 unfolding is_ahead
 behind_false ack mark by m l h e = not_within 1 _ (2 ^ 31 - 1) (λ p. absurd (omega (arith, p.1)))
 
-ahead_false : (ack mark by : ℕ) → mark < 4294967296 → (by ≡ 0) ⊎ ((2147483648 ≤ by) × (by < 4294967296)) → (mark + by) % 4294967296 ≡ ack → is_ahead ack (At mark) ≡ false
-ahead_false ack mark by m (inl z) e = let same : ack ≡ mark = omega arith in ap (λ (n : ℕ). is_ahead n (At mark)) same ∙ at_mark mark m
+ahead_false : (ack mark by : ℕ) → mark < 4294967296 → (by ≡ 0) ⊎ ((2147483648 ≤ by) × (by < 4294967296)) → (mark + by) % 4294967296 ≡ ack → is_ahead ack (Some mark) ≡ false
+ahead_false ack mark by m (inl z) e = let same : ack ≡ mark = omega arith in ap (λ (n : ℕ). is_ahead n (Some mark)) same ∙ at_mark mark m
 ahead_false ack mark by m (inr p) e = behind_false ack mark by m p.0 p.1 e
 
-no_mark_ahead : (ack : ℕ) → is_ahead ack Absent ≡ true
+no_mark_ahead : (ack : ℕ) → is_ahead ack None ≡ true
 unfolding is_ahead
 no_mark_ahead ack = refl
 
@@ -81,11 +80,11 @@ echoes = record {
 
 -- ---- no other echo is so
 
-module _ (g : Congestion) (a : Echoes g) (c : Connection) (ack highest mss : ℕ) (small : ack < 4294967296) (marks : (mark : ℕ) → c.mark ≡ At mark → mark < 4294967296) where
+module _ (g : Congestion) (a : Echoes g) (c : Connection) (ack highest mss : ℕ) (small : ack < 4294967296) (marks : (mark : ℕ) → c.mark ≡ Some mark → mark < 4294967296) where
   abbrev Same : Type 0
   Same = g.echo c ack highest mss ≡ congestion_calls.echo c ack highest mss
 
-  module _ (p : EchoGiven c mss) (mark : ℕ) (e : c.mark ≡ At mark) where
+  module _ (p : EchoGiven c mss) (mark : ℕ) (e : c.mark ≡ Some mark) where
     m : mark < 4294967296
     m = marks mark e
 
@@ -104,8 +103,8 @@ module _ (g : Congestion) (a : Echoes g) (c : Connection) (ack highest mss : ℕ
     by_marked = by_distance ((ack + 4294967296 - mark) % 4294967296) (let h = m in omega arith) (let h = m in omega arith)
 
   by_mark : EchoGiven c mss → (k : Mark) → c.mark ≡ k → Same
-  by_mark p Absent e = a.no_mark c ack highest mss p e ∙ sym (echoes.no_mark c ack highest mss p e)
-  by_mark p (At mark) e = by_marked p mark e
+  by_mark p None e = a.no_mark c ack highest mss p e ∙ sym (echoes.no_mark c ack highest mss p e)
+  by_mark p (Some mark) e = by_marked p mark e
 
   pub echo_only : Same
   echo_only =
@@ -122,7 +121,7 @@ lowered_in c highest mss i l =
     let high = i.window_high in
     let n = half_of c.window mss in
     let windowed = window_part c i n (omega arith) (omega arith) in
-    mark_part (with_ssthresh (with_window c n) n) (ssthresh_part (with_window c n) windowed n (omega arith)) (At highest)
+    mark_part (with_ssthresh (with_window c n) n) (ssthresh_part (with_window c n) windowed n (omega arith)) (Some highest)
 
 -- what an echo leaves: the record itself, or the lowered one
 pub echo_by : (P : Connection → Type 0) (c : Connection) (ack highest mss : ℕ) → P c → (EchoGiven c mss → P (lowered c highest mss)) → P (congestion_calls.echo c ack highest mss).left
@@ -151,7 +150,7 @@ reacts_once c ack highest mss later highest' mss' behind h l e b d low high =
     let r = reacted_left c ack highest mss e in
     let next = (congestion_calls.echo c ack highest mss).left in
     let in_range_lem : InRange next = subst InRange (sym r.1) (lowered_in c highest mss r.0.record_in r.0.mss_low) in
-    let marked : next.mark ≡ At highest = ap (λ (x : Connection). x.mark) r.1 in
+    let marked : next.mark ≡ Some highest = ap (λ (x : Connection). x.mark) r.1 in
     let g : EchoGiven next mss' = record { record_in = in_range_lem; mss_low = low; mss_high = high } in
     ⊎_elim
     (λ (z : behind ≤ 0). echoes.otherwise next later highest' mss' highest 0 g marked h (inl refl) (omega arith))

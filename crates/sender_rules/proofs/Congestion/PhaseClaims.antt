@@ -2,7 +2,7 @@
 use Prim.Native.Nat.{ℕ, ◌+◌, ◌*◌, ◌/◌, ◌≤◌, ◌<◌, max}
 use mathlib.Core.Bool.{Bool, true, false, ◌&&◌}
 use mathlib.Core.Logic.{⊎_elim}
-use mathlib.Core.Option.{Option, none, some}
+use Rattle.std.specs.Prelude.{Option, None, Some}
 use mathlib.Core.Path.{◌≡◌, refl, sym, ap, subst, ◌∙◌}
 use native.Mathlib.Omega.{arith}
 use borrow.Author.Tests.{le-leb, lt-leb, lt-ltb, le-ltb}
@@ -10,10 +10,8 @@ use Rattle.common.specs.Choice.{within}
 use Rattle.common.proofs.Choice.{not_both, untrue, tested, both_true, within_low, within_high, in_within, le_or_gt}
 use Rattle.refusals.specs.Reply.{Reply, answer, refuse, refusing, answering}
 use Rattle.wire_rules.specs.Rates.Window.{longest_rtt}
-use Rattle.sender_rules.specs.declared.Moment.{Moment}
-use Rattle.sender_rules.specs.declared.Moment.TheVariants.{Absent, At}
 use Rattle.sender_rules.specs.declared.Connection.{Connection}
-use Rattle.sender_rules.specs.Connections.Records.{samples_of, in_range, with_window, with_ssthresh, with_period}
+use Rattle.sender_rules.specs.Connections.Records.{samples_of, in_range, with_window, with_ssthresh, with_period, Moment}
 use Rattle.sender_rules.specs.Connections.Claims.{InRange}
 use Rattle.sender_rules.proofs.Connections.Claims.{ranges}
 use Rattle.sender_rules.proofs.Connections.PartLaws.{window_part, ssthresh_part, period_part}
@@ -58,35 +56,35 @@ judged : (c : Connection) (rtt time : ℕ) (o : Option ℕ) → pipe_ack (longes
 unfolding is_validated
 judged c rtt time o e = ap (validated c.window) e
 
-undefined_is : (window : ℕ) → validated window none ≡ true
+undefined_is : (window : ℕ) → validated window None ≡ true
 unfolding validated
 undefined_is window = refl
 
-enough : (window bytes : ℕ) → window ≤ 2 * bytes → validated window (some bytes) ≡ true
+enough : (window bytes : ℕ) → window ≤ 2 * bytes → validated window (Some bytes) ≡ true
 unfolding validated
 enough window bytes h = le-leb window (2 * bytes) h
 
-too_little : (window bytes : ℕ) → 2 * bytes < window → validated window (some bytes) ≡ false
+too_little : (window bytes : ℕ) → 2 * bytes < window → validated window (Some bytes) ≡ false
 unfolding validated
 too_little window bytes h = lt-leb window (2 * bytes) h
 
-not_over_at : (time start : ℕ) (m : Moment) → m ≡ At start → time ≤ start + 300000000 → is_over time m ≡ false
+not_over_at : (time start : ℕ) (m : Moment) → m ≡ Some start → time ≤ start + 300000000 → is_over time m ≡ false
 unfolding is_over
 not_over_at time start m e h = rw e (le-ltb (start + 300000000) time h)
 
-over_at : (time start : ℕ) (m : Moment) → m ≡ At start → start + 300000000 < time → is_over time m ≡ true
+over_at : (time start : ℕ) (m : Moment) → m ≡ Some start → start + 300000000 < time → is_over time m ≡ true
 unfolding is_over
 over_at time start m e h = rw e (lt-ltb (start + 300000000) time h)
 
-not_over_absent : (time : ℕ) (m : Moment) → m ≡ Absent → is_over time m ≡ false
+not_over_absent : (time : ℕ) (m : Moment) → m ≡ None → is_over time m ≡ false
 unfolding is_over
 not_over_absent time m e = rw e refl
 
-starts : (time : ℕ) (m : Moment) → m ≡ Absent → started_at time m ≡ At time
+starts : (time : ℕ) (m : Moment) → m ≡ None → started_at time m ≡ Some time
 unfolding started_at
 starts time m e = rw e refl
 
-goes_on : (time start : ℕ) (m : Moment) → m ≡ At start → started_at time m ≡ m
+goes_on : (time start : ℕ) (m : Moment) → m ≡ Some start → started_at time m ≡ m
 unfolding started_at
 goes_on time start m e = rw e refl
 
@@ -105,32 +103,32 @@ module _ (c : Connection) (rtt initial time : ℕ) where
       said : (b : Bool) → is_validated rtt time c ≡ b → congestion_calls.phase c rtt initial time ≡ record { said = answer b; left = after_phase c initial time (answer b) }
       said b e = by_reply (answer b) (phase_said c rtt initial time (ranges.suffices c g.record_in) (numbers c rtt initial g) (in_time c time t) b e)
 
-      is_validated_lem : is_validated rtt time c ≡ true → congestion_calls.phase c rtt initial time ≡ answering true (with_period c Absent)
+      is_validated_lem : is_validated rtt time c ≡ true → congestion_calls.phase c rtt initial time ≡ answering true (with_period c None)
       is_validated_lem e = said true e
 
       is_not : is_validated rtt time c ≡ false → congestion_calls.phase c rtt initial time ≡ answering false (run_on initial time c)
       is_not e = said false e
 
-  first_start : c.period ≡ Absent → run_on initial time c ≡ with_period c (At time)
+  first_start : c.period ≡ None → run_on initial time c ≡ with_period c (Some time)
   first_start e = sym (period_on initial time c (not_over_absent time c.period e)) ∙ ap (with_period c) (starts time c.period e)
 
-  runs_on : (start : ℕ) → c.period ≡ At start → time ≤ start + 300000000 → run_on initial time c ≡ c
+  runs_on : (start : ℕ) → c.period ≡ Some start → time ≤ start + 300000000 → run_on initial time c ≡ c
   runs_on start e h = sym (period_on initial time c (not_over_at time start c.period e h)) ∙ ap (with_period c) (goes_on time start c.period e)
 
-  starts_again : (start : ℕ) → c.period ≡ At start → start + 300000000 < time → run_on initial time c ≡ lower_again c initial time
+  starts_again : (start : ℕ) → c.period ≡ Some start → start + 300000000 < time → run_on initial time c ≡ lower_again c initial time
   unfolding halved
   starts_again start e h = sym (period_over_lem initial time c (over_at time start c.period e h))
 
   little : (bytes : ℕ) → PipeAckIs rtt time (samples_of c) bytes → 2 * bytes < c.window → is_validated rtt time c ≡ false
-  little bytes p h = judged c rtt time (some bytes) (is_bytes rtt time (samples_of c) bytes p) ∙ too_little c.window bytes h
+  little bytes p h = judged c rtt time (Some bytes) (is_bytes rtt time (samples_of c) bytes p) ∙ too_little c.window bytes h
 
 pub phases : Phases congestion_calls
 phases = record {
   seven = λ c rtt initial time n. out c rtt initial time (untrue (test_of c rtt initial) (λ e. n (given c rtt initial e)));
   nine_newest = λ c rtt initial time newest others g e h. too_early c rtt initial time g (early_newest c time newest others e h);
   nine_start = λ c rtt initial time start g e h. too_early c rtt initial time g (early_start c time start e h);
-  undefined = λ c rtt initial time g t u. is_validated_lem c rtt initial time g t (judged c rtt time none (is_undefined rtt time (samples_of c) u) ∙ undefined_is c.window);
-  validated = λ c rtt initial time bytes g t p h. is_validated_lem c rtt initial time g t (judged c rtt time (some bytes) (is_bytes rtt time (samples_of c) bytes p) ∙ enough c.window bytes h);
+  undefined = λ c rtt initial time g t u. is_validated_lem c rtt initial time g t (judged c rtt time None (is_undefined rtt time (samples_of c) u) ∙ undefined_is c.window);
+  validated = λ c rtt initial time bytes g t p h. is_validated_lem c rtt initial time g t (judged c rtt time (Some bytes) (is_bytes rtt time (samples_of c) bytes p) ∙ enough c.window bytes h);
   first = λ c rtt initial time bytes g t p h e. is_not c rtt initial time g t (little c rtt initial time bytes p h) ∙ ap (answering false) (first_start c rtt initial time e);
   running = λ c rtt initial time bytes start g t p h e l. is_not c rtt initial time g t (little c rtt initial time bytes p h) ∙ ap (answering false) (runs_on c rtt initial time start e l);
   over = λ c rtt initial time bytes start g t p h e l. is_not c rtt initial time g t (little c rtt initial time bytes p h) ∙ ap (answering false) (starts_again c rtt initial time start e l);
@@ -144,16 +142,16 @@ module _ (g : Congestion) (a : Phases g) (c : Connection) (rtt initial time : �
 
   module _ (p : PhaseGiven c rtt initial) (t : InTime c time) where
     by_period : (bytes : ℕ) → PipeAckIs rtt time (samples_of c) bytes → 2 * bytes < c.window → (m : Moment) → c.period ≡ m → Same
-    by_period bytes k h Absent e = a.first c rtt initial time bytes p t k h e ∙ sym (phases.first c rtt initial time bytes p t k h e)
-    by_period bytes k h (At start) e =
+    by_period bytes k h None e = a.first c rtt initial time bytes p t k h e ∙ sym (phases.first c rtt initial time bytes p t k h e)
+    by_period bytes k h (Some start) e =
         ⊎_elim
         (λ (l : time ≤ start + 300000000). a.running c rtt initial time bytes start p t k h e l ∙ sym (phases.running c rtt initial time bytes start p t k h e l))
         (λ (l : start + 300000000 < time). a.over c rtt initial time bytes start p t k h e l ∙ sym (phases.over c rtt initial time bytes start p t k h e l))
         (le_or_gt time (start + 300000000))
 
     by_pipe : (o : Option ℕ) → Known rtt time (samples_of c) o → Same
-    by_pipe none u = a.undefined c rtt initial time p t u ∙ sym (phases.undefined c rtt initial time p t u)
-    by_pipe (some bytes) k =
+    by_pipe None u = a.undefined c rtt initial time p t u ∙ sym (phases.undefined c rtt initial time p t u)
+    by_pipe (Some bytes) k =
         ⊎_elim
         (λ (h : c.window ≤ 2 * bytes). a.validated c rtt initial time bytes p t k h ∙ sym (phases.validated c rtt initial time bytes p t k h))
         (λ (h : 2 * bytes < c.window). by_period bytes k h c.period refl)
@@ -188,7 +186,7 @@ phase_by P c rtt initial time p f h =
     by_over g false e = subst P (period_on initial time c e) (f (started_at time c.period))
 
     by_said : PhaseGiven c rtt initial → InTime c time → (b : Bool) → is_validated rtt time c ≡ b → P (congestion_calls.phase c rtt initial time).left
-    by_said g t true e = subst (λ o. P o.left) (sym (is_validated_lem c rtt initial time g t e)) (f Absent)
+    by_said g t true e = subst (λ o. P o.left) (sym (is_validated_lem c rtt initial time g t e)) (f None)
     by_said g t false e = subst (λ o. P o.left) (sym (is_not c rtt initial time g t e)) (by_over g (is_over time c.period) refl)
 
     by_when_of : PhaseGiven c rtt initial → When c time → P (congestion_calls.phase c rtt initial time).left
@@ -204,4 +202,4 @@ lower_again_in c initial time i l =
     let s = max c.ssthresh (3 * c.window / 4) in
     let w = half_of c.window initial in
     let raised = ssthresh_part c i s (omega arith) in
-    period_part (with_window (with_ssthresh c s) w) (window_part (with_ssthresh c s) raised w (omega arith) (omega arith)) (At time)
+    period_part (with_window (with_ssthresh c s) w) (window_part (with_ssthresh c s) raised w (omega arith) (omega arith)) (Some time)

@@ -3,7 +3,7 @@ use Prim.Native.Nat.{ℕ, zero, suc, ◌+◌, ◌≤◌, ◌<◌, max}
 use mathlib.Core.Bool.{Bool, true, false}
 use mathlib.Core.List.{List, [], ◌∷◌}
 use mathlib.Core.Logic.{⊎_elim}
-use mathlib.Core.Option.{Option, none, some}
+use Rattle.std.specs.Prelude.{Option, None, Some}
 use mathlib.Core.Path.{◌≡◌, refl, ap, subst}
 use native.Mathlib.Nat.{le_refl}
 use native.Mathlib.Omega.{arith}
@@ -19,8 +19,8 @@ use Rattle.sender_rules.specs.Congestion.Claims.{Recent, PipeAckIs, Undefined}
 module _ (rtt time : ℕ) where
   -- what is said of the samples by what was found
   abbrev pub Known : List Sample → Option ℕ → Type 0
-  Known samples none = Undefined rtt time samples
-  Known samples (some bytes) = PipeAckIs rtt time samples bytes
+  Known samples None = Undefined rtt time samples
+  Known samples (Some bytes) = PipeAckIs rtt time samples bytes
 
   recent_true : (s : Sample) → is_recent (longest_age rtt) time s ≡ true → Recent rtt time s
   unfolding is_recent
@@ -60,11 +60,11 @@ module _ (rtt time : ℕ) where
     none_before n u zero h q = n q
     none_before n u (suc i) h q = u i (omega arith) q
 
-    step : (t : Bool) → is_recent (longest_age rtt) time s ≡ t → (o : Option ℕ) → Known rest o → Known (s ∷ rest) (pick t (some (greater_of s.bytes o)) o)
-    step true e none u = front (recent_true s e) (λ i h q. absurd (u i h q))
-    step true e (some most) p = greater most (recent_true s e) p
-    step false e none u = none_before (recent_false s e) u
-    step false e (some most) p = behind most p (λ q. absurd (recent_false s e q))
+    step : (t : Bool) → is_recent (longest_age rtt) time s ≡ t → (o : Option ℕ) → Known rest o → Known (s ∷ rest) (pick t (Some (greater_of s.bytes o)) o)
+    step true e None u = front (recent_true s e) (λ i h q. absurd (u i h q))
+    step true e (Some most) p = greater most (recent_true s e) p
+    step false e None u = none_before (recent_false s e) u
+    step false e (Some most) p = behind most p (λ q. absurd (recent_false s e q))
 
   pub known : (samples : List Sample) → Known samples (pipe_ack (longest_age rtt) time samples)
   unfolding pipe_ack or_greater
@@ -72,22 +72,22 @@ module _ (rtt time : ℕ) where
   known (s ∷ rest) = step s rest (is_recent (longest_age rtt) time s) refl (pipe_ack (longest_age rtt) time rest) (known rest)
 
   -- the other way: what is said of the samples leaves one pipeACK
-  pub is_undefined : (samples : List Sample) → Undefined rtt time samples → pipe_ack (longest_age rtt) time samples ≡ none
+  pub is_undefined : (samples : List Sample) → Undefined rtt time samples → pipe_ack (longest_age rtt) time samples ≡ None
   is_undefined samples u = go (pipe_ack (longest_age rtt) time samples) (known samples)
     where
-      go : (o : Option ℕ) → Known samples o → o ≡ none
-      go none k = refl
-      go (some bytes) p = absurd (u p.place p.stands p.recent)
+      go : (o : Option ℕ) → Known samples o → o ≡ None
+      go None k = refl
+      go (Some bytes) p = absurd (u p.place p.stands p.recent)
 
-  pub is_bytes : (samples : List Sample) (bytes : ℕ) → PipeAckIs rtt time samples bytes → pipe_ack (longest_age rtt) time samples ≡ some bytes
+  pub is_bytes : (samples : List Sample) (bytes : ℕ) → PipeAckIs rtt time samples bytes → pipe_ack (longest_age rtt) time samples ≡ Some bytes
   is_bytes samples bytes p = go (pipe_ack (longest_age rtt) time samples) (known samples)
     where
-      go : (o : Option ℕ) → Known samples o → o ≡ some bytes
-      go none u = absurd (u p.place p.stands p.recent)
-      go (some other) q =
+      go : (o : Option ℕ) → Known samples o → o ≡ Some bytes
+      go None u = absurd (u p.place p.stands p.recent)
+      go (Some other) q =
           let a = q.greatest p.place p.stands p.recent in
           let b = p.greatest q.place q.stands q.recent in
           let c = p.bytes_are in
           let d = q.bytes_are in
           let e : other ≡ bytes = omega arith in
-          ap some e
+          ap Some e

@@ -12,11 +12,10 @@ use lib.Seq.{take-take, length-take-le}
 use Rattle.common.specs.Choice.{pick}
 use Rattle.common.proofs.Choice.{clash, not_both, untrue, tested, both_true, le_or_gt}
 use Rattle.refusals.specs.Reply.{Reply, answer, refuse, Outcome, outcome_of, refusing, answering}
-use Rattle.sender_rules.specs.declared.Moment.{Moment}
-use Rattle.sender_rules.specs.declared.Moment.TheVariants.{Absent, At}
+use Rattle.std.specs.Prelude.{None, Some}
 use Rattle.sender_rules.specs.declared.Sample.{Sample}
 use Rattle.sender_rules.specs.declared.Connection.{Connection}
-use Rattle.sender_rules.specs.Connections.Records.{most_bytes, most_samples, samples_of, is_before, in_range, fresh_with, with_samples}
+use Rattle.sender_rules.specs.Connections.Records.{most_bytes, most_samples, samples_of, is_before, in_range, fresh_with, with_samples, Moment}
 use Rattle.sender_rules.specs.Connections.Claims.{no_sample, InRange}
 use Rattle.sender_rules.proofs.Connections.Claims.{ranges}
 use Rattle.sender_rules.proofs.Connections.PartLaws.{samples_part}
@@ -27,10 +26,10 @@ use Rattle.sender_rules.proofs.Congestion.CallLaws.{sample_early, sample_done}
 
 -- ---- times
 
-started_later : (time : ℕ) (m : Moment) → ((start : ℕ) → m ≡ At start → start ≤ time) → is_before time m ≡ false
+started_later : (time : ℕ) (m : Moment) → ((start : ℕ) → m ≡ Some start → start ≤ time) → is_before time m ≡ false
 unfolding is_before
-started_later time Absent f = refl
-started_later time (At start) f = le-ltb time start (f start refl)
+started_later time None f = refl
+started_later time (Some start) f = le-ltb time start (f start refl)
 
 newest_earlier : (time : ℕ) (l : List Sample) → ((newest : Sample) (others : List Sample) → l ≡ newest ∷ others → newest.time ≤ time) → before_newest time l ≡ false
 newest_earlier time [] f = refl
@@ -49,7 +48,7 @@ module _ (c : Connection) (time : ℕ) where
       go true = refl
       go false = ap (before_newest time) e ∙ lt-ltb time newest.time h
 
-  pub early_start : (start : ℕ) → c.period ≡ At start → time < start → is_early time c ≡ true
+  pub early_start : (start : ℕ) → c.period ≡ Some start → time < start → is_early time c ≡ true
   unfolding is_early is_before
   early_start start e h = let b : is_before time c.period ≡ true = rw e (lt-ltb time start h) in simp b
 
@@ -57,9 +56,9 @@ module _ (c : Connection) (time : ℕ) where
   pub data When : Type 0 where
     fine : InTime c time → When
     newer : (newest : Sample) (others : List Sample) → samples_of c ≡ newest ∷ others → time < newest.time → When
-    started : (start : ℕ) → c.period ≡ At start → time < start → When
+    started : (start : ℕ) → c.period ≡ Some start → time < start → When
 
-  by_samples : ((start : ℕ) → c.period ≡ At start → start ≤ time) → (l : List Sample) → samples_of c ≡ l → When
+  by_samples : ((start : ℕ) → c.period ≡ Some start → start ≤ time) → (l : List Sample) → samples_of c ≡ l → When
   by_samples f [] e = fine (record { after_newest = λ newest others g. let z : newest ∷ others ≡ [] = sym g ∙ e in absurd (clash (cc)); after_start = f })
   by_samples f (s ∷ l) e =
       ⊎_elim
@@ -72,10 +71,10 @@ module _ (c : Connection) (time : ℕ) where
       (le_or_gt s.time time)
 
   by_period : (m : Moment) → c.period ≡ m → When
-  by_period Absent e = by_samples (λ start g. let z : At start ≡ Absent = sym g ∙ e in absurd (clash (cc))) (samples_of c) refl
-  by_period (At begun) e =
+  by_period None e = by_samples (λ start g. let z : Some start ≡ None = sym g ∙ e in absurd (clash (cc))) (samples_of c) refl
+  by_period (Some begun) e =
       ⊎_elim
-      (λ (h : begun ≤ time). by_samples (λ start g. let z : At start ≡ At begun = sym g ∙ e in let same : start ≡ begun = cc in omega arith) (samples_of c) refl)
+      (λ (h : begun ≤ time). by_samples (λ start g. let z : Some start ≡ Some begun = sym g ∙ e in let same : start ≡ begun = cc in omega arith) (samples_of c) refl)
       (λ (h : time < begun). started begun e h)
       (le_or_gt begun time)
 

@@ -3,11 +3,9 @@ use Prim.Native.Nat.{ℕ, ◌≤◌, ◌<◌}
 use mathlib.Core.List.{List}
 use lib.ListN.{get_or}
 use Rattle.sender_rules.specs.declared.State.{State}
-use Rattle.sender_rules.specs.declared.Moment.{Moment}
-use Rattle.sender_rules.specs.declared.Mark.{Mark}
 use Rattle.sender_rules.specs.declared.Sample.{Sample}
 use Rattle.sender_rules.specs.declared.Connection.{Connection}
-use Rattle.sender_rules.specs.Connections.Records.{most_bytes, most_samples, with_state, with_window, with_ssthresh, with_last_request, with_mark, with_samples, with_period}
+use Rattle.sender_rules.specs.Connections.Records.{most_bytes, most_samples, with_state, with_window, with_ssthresh, with_last_request, with_mark, with_samples, with_period, Moment, Mark}
 use Rattle.sender_rules.specs.Connections.Claims.{StateInRange, no_sample, InRange, made}
 
 -- a record is in range by those of its parts that have a range

@@ -1,5 +1,5 @@
 -- Laws of the sender's calls, by the tests that lead to each reply. Assumes nothing.
-use Prim.Native.Nat.{ℕ, ◌-◌, ◌≤◌, ◌<◌, min, max}
+use Prim.Native.Nat.{ℕ, ◌≤◌, ◌<◌, min, max}
 use mathlib.Core.Bool.{Bool, true, false, ◌&&◌}
 use mathlib.Core.List.{List}
 use lib.Dec.{leb, ltb, eqb}
@@ -22,7 +22,9 @@ use Rattle.sender_rules.specs.declared.State.{State}
 use Rattle.sender_rules.specs.declared.State.TheVariants.{Idle, Quick}
 use Rattle.sender_rules.specs.declared.Connection.{Connection}
 use Rattle.sender_rules.specs.Connections.Records.{most_bytes, is_before, in_range, with_state, with_window}
-use Rattle.sender_rules.specs.Sender.Calls.{Wish, Transport, sending, ask_in_range, is_busy, is_soon, asked, ask_reply, while_asked, while_quick, judged, taken, response_reply, granted, acknowledged_reply, loss_reply, give_up_reply}
+use Rattle.sender_rules.specs.Sender.Calls.{sending, ask_in_range, is_busy, is_soon, asked, ask_reply, while_asked, while_quick, judged, taken, response_reply, granted, acknowledged_reply, loss_reply, give_up_reply}
+use Rattle.wire_rules.specs.declared.Transport.{Transport}
+use Rattle.sender_rules.specs.declared.Wish.{Wish}
 
 -- ---- a response judged by the open request
 
@@ -174,11 +176,11 @@ module _ (c : Connection) (w : Wish) (buffer : List ℕ) (e : in_range c ≡ tru
         pub ask_soon : is_soon w.time w.rtt c.last_request ≡ true → refuse 10 ≡ ask_reply c w buffer
         ask_soon k = simp (e, f, g, h, k)
 
-        pub ask_sent : is_soon w.time w.rtt c.last_request ≡ false → (new : List ℕ) → new ≡ leaves buffer (request_written buffer w.code w.qs w.nonce)
+        pub ask_sent : is_soon w.time w.rtt c.last_request ≡ false → (new : List ℕ) → new ≡ leaves buffer (request_written buffer w.code w.qs_ttl w.nonce)
             → answer (sending (asked c w) new) ≡ ask_reply c w buffer
         ask_sent k new l =
             let a = ask_facts w.code w.ttl w.nonce w.rtt (length buffer) f in
-            let b = request_round_trip.accepted buffer w.code w.qs w.nonce a.room_is a.code_high a.nonce_high in
+            let b = request_round_trip.accepted buffer w.code w.qs_ttl w.nonce a.room_is a.code_high a.nonce_high in
             ap (λ (x : List ℕ). answer (sending (asked c w) x)) (l ∙ ap (leaves buffer) b.1)
             ∙ ap (λ (x : Reply (List ℕ)). and_then x (λ request. answer (sending (asked c w) request))) (sym b.1)
             ∙ simp (e, f, g, h, k)

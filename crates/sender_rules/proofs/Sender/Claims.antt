@@ -24,14 +24,15 @@ use Rattle.sender_rules.specs.declared.OpenRequest.{OpenRequest}
 use Rattle.sender_rules.specs.declared.Before.{Before}
 use Rattle.sender_rules.specs.declared.State.{State}
 use Rattle.sender_rules.specs.declared.State.TheVariants.{Idle, Asked, Quick}
-use Rattle.sender_rules.specs.declared.Moment.TheVariants.{Absent, At}
-use Rattle.sender_rules.specs.declared.Mark.TheVariants as Marks
+use Rattle.std.specs.Prelude.{None, Some}
 use Rattle.sender_rules.specs.declared.Connection.{Connection}
 use Rattle.sender_rules.specs.Connections.Records.{most_bytes, state_in_range, bytes_in_range, is_before, in_range, fresh_with, with_state}
 use Rattle.sender_rules.specs.Connections.Claims.{StateInRange, InRange}
 use Rattle.sender_rules.proofs.Connections.Claims.{ranges}
 use Rattle.sender_rules.proofs.Connections.PartLaws.{state_part, window_part, request_part}
-use Rattle.sender_rules.specs.Sender.Calls.{Wish, wish, Transport, transport, Sending, sending, asked, ask_in_range, is_busy, is_soon, ask_reply, while_asked, while_quick, judged, taken, response_reply, granted, after_response, back_to, acknowledged_reply, loss_reply, give_up_reply, sender_calls}
+use Rattle.sender_rules.specs.Sender.Calls.{wish, transport, Sending, sending, asked, ask_in_range, is_busy, is_soon, ask_reply, while_asked, while_quick, judged, taken, response_reply, granted, after_response, back_to, acknowledged_reply, loss_reply, give_up_reply, sender_calls}
+use Rattle.wire_rules.specs.declared.Transport.{Transport}
+use Rattle.sender_rules.specs.declared.Wish.{Wish}
 use Rattle.sender_rules.specs.Sender.Claims.{Lending, Ours, SenderOnly, Sent, Asks, Takes, StaysInRange, Unchanged, Windows, asking_by, taking_by, ShutOut}
 use Rattle.sender_rules.proofs.Sender.CallLaws.{ask_facts}
 use Rattle.sender_rules.proofs.Sender.CallLaws as laws
@@ -65,7 +66,7 @@ module _ (c : Connection) (w : Wish) (buffer : List ℕ) where
       let late = let_through (is_before w.time c.last_request) a _ 9 all.1 in
       let free = let_through (is_busy c.state) a _ 10 late.1 in
       let waited = let_through (is_soon w.time w.rtt c.last_request) a _ 10 free.1 in
-      let written = through (request_written buffer w.code w.qs w.nonce) (λ request. answer (sending (asked c w) request)) a (sym waited.1) in
+      let written = through (request_written buffer w.code w.qs_ttl w.nonce) (λ request. answer (sending (asked c w) request)) a (sym waited.1) in
       ((both_true (in_range c) (ask_in_range w.code w.ttl w.nonce w.rtt (length buffer)) all.0).1, ap (λ (s : Sending). s.connection) (same_answer written.2))
 
   ask_stays : InRange c → InRange (sender_calls.ask c w buffer).left.connection
@@ -215,11 +216,11 @@ waiting = record {
   state = Asked (record { code = 2; ttl_diff = 0; nonce = 0 });
   window = 1;
   ssthresh = 0;
-  last_request = At 0;
-  mark = Marks.Absent;
+  last_request = Some 0;
+  mark = None;
   samples = [];
   count = 0;
-  period = Absent;
+  period = None;
 }
 
 abbrev granting : List ℕ
@@ -257,10 +258,10 @@ module _ (ask : Connection → Wish → List ℕ → Outcome (Unit {0}) Sending)
       (lit< tt) refl (λ last e. absurd (clash (cc)))
 
 -- what ours writes for code 1 does not read as code 2
-asks_for_1 : Asks (asking_by (λ c w buffer. sender_calls.ask c (wish 1 w.ttl w.qs w.nonce w.rtt w.time) buffer)) → ⊥
+asks_for_1 : Asks (asking_by (λ c w buffer. sender_calls.ask c (wish 1 w.ttl w.qs_ttl w.nonce w.rtt w.time) buffer)) → ⊥
 unfolding in_range state_in_range bytes_in_range within ask_in_range is_before is_busy is_soon fields_fit option_bytes is_request word_of
 asks_for_1 a =
-    let reads = (sends_2 (λ c w buffer. sender_calls.ask c (wish 1 w.ttl w.qs w.nonce w.rtt w.time) buffer) a).1.reads in
+    let reads = (sends_2 (λ c w buffer. sender_calls.ask c (wish 1 w.ttl w.qs_ttl w.nonce w.rtt w.time) buffer) a).1.reads in
     let rates : ◌≡◌ {A = ℕ} 1 2 = ap (λ (r : Request). r.rate) (same_answer reads) in
     absurd (omega arith)
 

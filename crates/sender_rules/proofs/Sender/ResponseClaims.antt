@@ -24,7 +24,8 @@ use Rattle.sender_rules.specs.declared.State.TheVariants.{Idle, Asked, Quick}
 use Rattle.sender_rules.specs.declared.Connection.{Connection}
 use Rattle.sender_rules.specs.Connections.Records.{in_range, with_state, with_window}
 use Rattle.sender_rules.proofs.Connections.Claims.{ranges}
-use Rattle.sender_rules.specs.Sender.Calls.{Transport, while_asked, judged, taken, response_reply, granted, after_response, Sender, sender_calls}
+use Rattle.sender_rules.specs.Sender.Calls.{while_asked, judged, taken, response_reply, granted, after_response, Sender, sender_calls}
+use Rattle.wire_rules.specs.declared.Transport.{Transport}
 use Rattle.sender_rules.specs.Sender.Claims.{ResponseGiven, RateFits, Fits, quick_window, Takes, AcceptedOnly}
 use Rattle.sender_rules.proofs.Sender.CallLaws.{rate_wrong, diff_wrong, judged_by, not_above, above, response_in}
 

@@ -4,7 +4,7 @@ use Rattle.std.specs.Prelude.{ℕ, Bool, true, false, ◌&&◌, leb}
 use Rattle.common.specs.Choice.{pick, within}
 use Rattle.refusals.specs.Reply.{Reply, answer, refuse, Outcome, outcome_of}
 use Rattle.wire_rules.specs.Rates.Window.{largest_segment}
-use Rattle.sender_rules.specs.declared.Moment.TheVariants.{Absent}
+use Rattle.std.specs.Prelude.{None}
 use Rattle.sender_rules.specs.declared.Sample.{Sample}
 use Rattle.sender_rules.specs.declared.Connection.{Connection}
 use Rattle.sender_rules.specs.Connections.Records.{most_bytes, in_range, with_period}
@@ -31,7 +31,7 @@ phase_reply c rtt initial time = pick (in_range c && phase_in_range rtt initial)
 
 -- a call that finds it validated ends the period
 abbrev pub after_phase : Connection → ℕ → ℕ → Reply Bool → Connection
-after_phase c initial time (answer true) = with_period c Absent
+after_phase c initial time (answer true) = with_period c None
 after_phase c initial time (answer false) = run_on initial time c
 after_phase c initial time (refuse n) = c
 

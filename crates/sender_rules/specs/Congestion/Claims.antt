@@ -2,8 +2,7 @@
 -- over any such calls, in the paper's numbers; ours have them, and whatever calls have them say and leave what ours do. Assumes nothing.
 use Rattle.std.specs.Prelude.{ℕ, ◌+◌, ◌*◌, ◌/◌, ◌%◌, ◌≤◌, ◌<◌, min, max, true, false, List, [], ◌∷◌, ◌⊎◌, ◌≡◌, length, get_or, take}
 use Rattle.refusals.specs.Reply.{answer, refuse, refusing, answering}
-use Rattle.sender_rules.specs.declared.Moment.TheVariants as Moments
-use Rattle.sender_rules.specs.declared.Mark.TheVariants as Marks
+use Rattle.std.specs.Prelude.{None, Some}
 use Rattle.sender_rules.specs.declared.Sample.{Sample}
 use Rattle.sender_rules.specs.declared.Connection.{Connection}
 use Rattle.sender_rules.specs.Connections.Records.{samples_of, fresh_with, with_window, with_ssthresh, with_mark, with_samples, with_period}
@@ -25,18 +24,18 @@ half_of window least = min window (max (window / 2) least)
 
 -- "window and ssthresh become min(window, max(half, MSS)), and the highest sent number becomes the mark"; all else stays
 abbrev pub lowered : Connection → ℕ → ℕ → Connection
-lowered c highest mss = with_mark (with_ssthresh (with_window c (half_of c.window mss)) (half_of c.window mss)) (Marks.At highest)
+lowered c highest mss = with_mark (with_ssthresh (with_window c (half_of c.window mss)) (half_of c.window mss)) (Some highest)
 
 pub record Echoes (g : Congestion) : Type 0 where
   pub seven : (c : Connection) (acknowledgement highest mss : ℕ) → (EchoGiven c mss → ⊥) → g.echo c acknowledgement highest mss ≡ refusing 7 c
   -- "On an echo with no mark"
-  pub no_mark : (c : Connection) (acknowledgement highest mss : ℕ) → EchoGiven c mss → c.mark ≡ Marks.Absent
+  pub no_mark : (c : Connection) (acknowledgement highest mss : ℕ) → EchoGiven c mss → c.mark ≡ None
       → g.echo c acknowledgement highest mss ≡ answering true (lowered c highest mss)
   -- "or whose acknowledgement is ahead of the mark by 1 to 2^31 - 1 modulo 2^32"
-  pub ahead : (c : Connection) (acknowledgement highest mss mark by : ℕ) → EchoGiven c mss → c.mark ≡ Marks.At mark → mark < 4294967296
+  pub ahead : (c : Connection) (acknowledgement highest mss mark by : ℕ) → EchoGiven c mss → c.mark ≡ Some mark → mark < 4294967296
       → 1 ≤ by → by ≤ 2147483647 → (mark + by) % 4294967296 ≡ acknowledgement → g.echo c acknowledgement highest mss ≡ answering true (lowered c highest mss)
   -- "Otherwise nothing.": at the mark, or by 2^31 or more ahead, which is behind it
-  pub otherwise : (c : Connection) (acknowledgement highest mss mark by : ℕ) → EchoGiven c mss → c.mark ≡ Marks.At mark → mark < 4294967296
+  pub otherwise : (c : Connection) (acknowledgement highest mss mark by : ℕ) → EchoGiven c mss → c.mark ≡ Some mark → mark < 4294967296
       → (by ≡ 0) ⊎ ((2147483648 ≤ by) × (by < 4294967296)) → (mark + by) % 4294967296 ≡ acknowledgement → g.echo c acknowledgement highest mss ≡ answering false c
 
 -- ---- times
@@ -44,7 +43,7 @@ pub record Echoes (g : Congestion) : Type 0 where
 -- a time that is not before the newest sample's, which was added last, nor before the period's start
 pub record InTime (c : Connection) (time : ℕ) : Type 0 where
   pub after_newest : (newest : Sample) (others : List Sample) → samples_of c ≡ newest ∷ others → newest.time ≤ time
-  pub after_start : (start : ℕ) → c.period ≡ Moments.At start → start ≤ time
+  pub after_start : (start : ℕ) → c.period ≡ Some start → start ≤ time
 
 -- ---- samples
 
@@ -69,7 +68,7 @@ pub record Samples (g : Congestion) : Type 0 where
   pub seven : (c : Connection) (s : Sample) → (SampleGiven c s → ⊥) → g.sample c s ≡ refusing 7 c
   -- "A time before the newest sample's or the period's start gives 9"
   pub nine_newest : (c : Connection) (s newest : Sample) (others : List Sample) → SampleGiven c s → samples_of c ≡ newest ∷ others → s.time < newest.time → g.sample c s ≡ refusing 9 c
-  pub nine_start : (c : Connection) (s : Sample) (start : ℕ) → SampleGiven c s → c.period ≡ Moments.At start → s.time < start → g.sample c s ≡ refusing 9 c
+  pub nine_start : (c : Connection) (s : Sample) (start : ℕ) → SampleGiven c s → c.period ≡ Some start → s.time < start → g.sample c s ≡ refusing 9 c
   pub added : (c : Connection) (s : Sample) → SampleGiven c s → InTime c s.time → ((g.sample c s).said ≡ answer tt) × Added c s (g.sample c s).left
 
 -- ---- the phase
@@ -99,26 +98,26 @@ Undefined rtt time samples = (i : ℕ) → i < length samples → Recent rtt tim
 
 -- "ssthresh becomes max(ssthresh, 3/4 window), then window min(window, max(half, IW)), and the period starts again"
 abbrev pub lower_again : Connection → ℕ → ℕ → Connection
-lower_again c initial time = with_period (with_window (with_ssthresh c (max c.ssthresh (3 * c.window / 4))) (half_of c.window initial)) (Moments.At time)
+lower_again c initial time = with_period (with_window (with_ssthresh c (max c.ssthresh (3 * c.window / 4))) (half_of c.window initial)) (Some time)
 
 pub record Phases (g : Congestion) : Type 0 where
   pub seven : (c : Connection) (rtt initial time : ℕ) → (PhaseGiven c rtt initial → ⊥) → g.phase c rtt initial time ≡ refusing 7 c
   pub nine_newest : (c : Connection) (rtt initial time : ℕ) (newest : Sample) (others : List Sample) → PhaseGiven c rtt initial → samples_of c ≡ newest ∷ others → time < newest.time
       → g.phase c rtt initial time ≡ refusing 9 c
-  pub nine_start : (c : Connection) (rtt initial time start : ℕ) → PhaseGiven c rtt initial → c.period ≡ Moments.At start → time < start → g.phase c rtt initial time ≡ refusing 9 c
+  pub nine_start : (c : Connection) (rtt initial time start : ℕ) → PhaseGiven c rtt initial → c.period ≡ Some start → time < start → g.phase c rtt initial time ≡ refusing 9 c
   -- "The phase is validated if pipeACK is undefined or twice pipeACK is at least the window as the call finds it."; a period that ran ends
   pub undefined : (c : Connection) (rtt initial time : ℕ) → PhaseGiven c rtt initial → InTime c time → Undefined rtt time (samples_of c)
-      → g.phase c rtt initial time ≡ answering true (with_period c Moments.Absent)
+      → g.phase c rtt initial time ≡ answering true (with_period c None)
   pub validated : (c : Connection) (rtt initial time bytes : ℕ) → PhaseGiven c rtt initial → InTime c time → PipeAckIs rtt time (samples_of c) bytes → c.window ≤ 2 * bytes
-      → g.phase c rtt initial time ≡ answering true (with_period c Moments.Absent)
+      → g.phase c rtt initial time ≡ answering true (with_period c None)
   -- "the call that first found it so" starts the period
   pub first : (c : Connection) (rtt initial time bytes : ℕ) → PhaseGiven c rtt initial → InTime c time → PipeAckIs rtt time (samples_of c) bytes → 2 * bytes < c.window
-      → c.period ≡ Moments.Absent → g.phase c rtt initial time ≡ answering false (with_period c (Moments.At time))
+      → c.period ≡ None → g.phase c rtt initial time ≡ answering false (with_period c (Some time))
   -- "Non-validated for more than 300,000,000 microseconds": not yet, and then
   pub running : (c : Connection) (rtt initial time bytes start : ℕ) → PhaseGiven c rtt initial → InTime c time → PipeAckIs rtt time (samples_of c) bytes → 2 * bytes < c.window
-      → c.period ≡ Moments.At start → time ≤ start + 300000000 → g.phase c rtt initial time ≡ answering false c
+      → c.period ≡ Some start → time ≤ start + 300000000 → g.phase c rtt initial time ≡ answering false c
   pub over : (c : Connection) (rtt initial time bytes start : ℕ) → PhaseGiven c rtt initial → InTime c time → PipeAckIs rtt time (samples_of c) bytes → 2 * bytes < c.window
-      → c.period ≡ Moments.At start → start + 300000000 < time → g.phase c rtt initial time ≡ answering false (lower_again c initial time)
+      → c.period ≡ Some start → start + 300000000 < time → g.phase c rtt initial time ≡ answering false (lower_again c initial time)
 
 -- ---- ours have them, and they leave nothing open
 
@@ -131,7 +130,7 @@ pub record Ours : Type 0 where
 -- behind the samples that are kept is left free.
 pub record CongestionOnly : Type 0 where
   pub echo : (g : Congestion) → Echoes g → (c : Connection) (acknowledgement highest mss : ℕ) → acknowledgement < 4294967296
-      → ((mark : ℕ) → c.mark ≡ Marks.At mark → mark < 4294967296) → g.echo c acknowledgement highest mss ≡ congestion_calls.echo c acknowledgement highest mss
+      → ((mark : ℕ) → c.mark ≡ Some mark → mark < 4294967296) → g.echo c acknowledgement highest mss ≡ congestion_calls.echo c acknowledgement highest mss
   pub sample : (g : Congestion) → Samples g → (c : Connection) (s : Sample)
       → ((g.sample c s).said ≡ (congestion_calls.sample c s).said) × (samples_of (g.sample c s).left ≡ samples_of (congestion_calls.sample c s).left)
       × ((g.sample c s).left ≡ with_samples (congestion_calls.sample c s).left (g.sample c s).left.samples (congestion_calls.sample c s).left.count)
@@ -151,7 +150,7 @@ pub record StaysInRange : Type 0 where
   pub sample : (c : Connection) (s : Sample) → InRange c → InRange (congestion_calls.sample c s).left
   pub phase : (c : Connection) (rtt initial time : ℕ) → InRange c → InRange (congestion_calls.phase c rtt initial time).left
 
--- a refused call hands the record back unchanged
+-- a refused call leaves the record as it was
 pub record Unchanged : Type 0 where
   pub echo : (c : Connection) (acknowledgement highest mss n : ℕ) → (congestion_calls.echo c acknowledgement highest mss).said ≡ refuse n
       → (congestion_calls.echo c acknowledgement highest mss).left ≡ c

@@ -1,13 +1,11 @@
 -- The samples and the phase of pipeACK (document 01, "ECN and pipeACK"). Assumes nothing.
 use Rattle.std.specs.Prelude.{ℕ, ◌+◌, ◌-◌, ◌*◌, ◌/◌, min, max, Bool, true, false, ◌&&◌, List, [], ◌∷◌, leb, ltb, take}
-use Rattle.std.proofs.Math.Option.{Option, none, some}
+use Rattle.std.specs.Prelude.{Option, None, Some}
 use Rattle.common.specs.Choice.{pick, within}
 use Rattle.wire_rules.specs.Rates.Window.{longest_rtt}
-use Rattle.sender_rules.specs.declared.Moment.{Moment}
-use Rattle.sender_rules.specs.declared.Moment.TheVariants.{Absent, At}
 use Rattle.sender_rules.specs.declared.Sample.{Sample}
 use Rattle.sender_rules.specs.declared.Connection.{Connection}
-use Rattle.sender_rules.specs.Connections.Records.{most_samples, samples_of, is_before, with_window, with_ssthresh, with_samples, with_period}
+use Rattle.sender_rules.specs.Connections.Records.{most_samples, samples_of, is_before, with_window, with_ssthresh, with_samples, with_period, Moment}
 use Rattle.sender_rules.specs.Congestion.Echoes.{halved}
 
 -- ---- samples
@@ -53,23 +51,23 @@ is_recent limit time sample = leb time (sample.time + limit)
 
 -- a sample and what others gave: the greater of the two, if the sample counts
 abbrev pub greater_of : ℕ → Option ℕ → ℕ
-greater_of bytes none = bytes
-greater_of bytes (some most) = max bytes most
+greater_of bytes None = bytes
+greater_of bytes (Some most) = max bytes most
 
 unfoldable pub or_greater : ℕ → ℕ → Sample → Option ℕ → Option ℕ
-or_greater limit time sample others = pick (is_recent limit time sample) (some (greater_of sample.bytes others)) others
+or_greater limit time sample others = pick (is_recent limit time sample) (Some (greater_of sample.bytes others)) others
 
 -- "pipeACK is the greatest sample not older than .., undefined if none"
 unfoldable pub pipe_ack : ℕ → ℕ → List Sample → Option ℕ
-pipe_ack limit time [] = none
+pipe_ack limit time [] = None
 pipe_ack limit time (sample ∷ others) =
     let rest = pipe_ack limit time others in
     or_greater limit time sample rest
 
 -- "The phase is validated if pipeACK is undefined or twice pipeACK is at least the window as the call finds it."
 unfoldable pub validated : ℕ → Option ℕ → Bool
-validated window none = true
-validated window (some bytes) = leb window (2 * bytes)
+validated window None = true
+validated window (Some bytes) = leb window (2 * bytes)
 
 unfoldable pub is_validated : ℕ → ℕ → Connection → Bool
 is_validated rtt time c = validated c.window (pipe_ack (longest_age rtt) time (samples_of c))
@@ -80,13 +78,13 @@ longest_period = 300000000
 
 -- "for more than 300,000,000 microseconds since the call that first found it so"
 unfoldable pub is_over : ℕ → Moment → Bool
-is_over time Absent = false
-is_over time (At start) = ltb (start + longest_period) time
+is_over time None = false
+is_over time (Some start) = ltb (start + longest_period) time
 
 -- the period's start, by a call that finds the phase non-validated: its own time if none runs
 unfoldable pub started_at : ℕ → Moment → Moment
-started_at time Absent = At time
-started_at time (At start) = At start
+started_at time None = Some time
+started_at time (Some start) = Some start
 
 -- "ssthresh becomes max(ssthresh, 3/4 window), then window min(window, max(half, IW))"; "All halves and quarters round down."
 abbrev pub adjusted : ℕ → Connection → Connection
@@ -94,4 +92,4 @@ adjusted initial c = with_window (with_ssthresh c (max c.ssthresh (3 * c.window 
 
 -- the record after a call that finds it non-validated: the adjustment "and the period starts again", or the period goes on
 unfoldable pub run_on : ℕ → ℕ → Connection → Connection
-run_on initial time c = pick (is_over time c.period) (with_period (adjusted initial c) (At time)) (with_period c (started_at time c.period))
+run_on initial time c = pick (is_over time c.period) (with_period (adjusted initial c) (Some time)) (with_period c (started_at time c.period))

@@ -4,13 +4,10 @@ use Rattle.std.specs.Prelude.{ℕ, ◌≤◌, ◌<◌, true, false, List, [], �
 use Rattle.refusals.specs.Reply.{answer, refuse}
 use Rattle.sender_rules.specs.declared.State.{State}
 use Rattle.sender_rules.specs.declared.State.TheVariants.{Idle, Asked, Quick}
-use Rattle.sender_rules.specs.declared.Moment.{Moment}
-use Rattle.sender_rules.specs.declared.Moment.TheVariants as Moments
-use Rattle.sender_rules.specs.declared.Mark.{Mark}
-use Rattle.sender_rules.specs.declared.Mark.TheVariants as Marks
+use Rattle.std.specs.Prelude.{None}
 use Rattle.sender_rules.specs.declared.Sample.{Sample}
 use Rattle.sender_rules.specs.declared.Connection.{Connection}
-use Rattle.sender_rules.specs.Connections.Records.{samples_of, in_range, fresh_with, fresh_reply, with_state, with_window, with_ssthresh, with_last_request, with_mark, with_samples, with_period}
+use Rattle.sender_rules.specs.Connections.Records.{samples_of, in_range, fresh_with, fresh_reply, with_state, with_window, with_ssthresh, with_last_request, with_mark, with_samples, with_period, Moment, Mark}
 
 -- the open request's "code .. 1 to 15" and its nonce "below 2^30"; the window before, as a window, "1 to 2^40"
 abbrev pub StateInRange : State → Type 0
@@ -67,18 +64,18 @@ pub record IsFresh (window ssthresh : ℕ) (c : Connection) : Type 0 where
   pub state_is : c.state ≡ Idle
   pub window_is : c.window ≡ window
   pub ssthresh_is : c.ssthresh ≡ ssthresh
-  pub no_request : c.last_request ≡ Moments.Absent
-  pub no_mark : c.mark ≡ Marks.Absent
+  pub no_request : c.last_request ≡ None
+  pub no_mark : c.mark ≡ None
   pub no_sample_lem : samples_of c ≡ []
   -- five places, and zeros in each
   pub places : c.samples ≡ no_sample ∷ no_sample ∷ no_sample ∷ no_sample ∷ no_sample ∷ []
-  pub no_period : c.period ≡ Moments.Absent
+  pub no_period : c.period ≡ None
 
 pub record Fresh : Type 0 where
   pub fresh : (window ssthresh : ℕ) → IsFresh window ssthresh (fresh_with window ssthresh)
   -- "window 1 to 2^40", ssthresh "at most 2^40"
   pub made : (window ssthresh : ℕ) → 1 ≤ window → window ≤ 1099511627776 → ssthresh ≤ 1099511627776 → fresh_reply window ssthresh ≡ answer tt
   pub seven : (window ssthresh : ℕ) → ((1 ≤ window) × (window ≤ 1099511627776) × (ssthresh ≤ 1099511627776) → ⊥) → fresh_reply window ssthresh ≡ refuse 7
-  -- a record that was made is in range; what is handed back beside a refusal is not, so that every call refuses it with 7
+  -- a record that was made is in range; the record of numbers that are refused is not, so that every call refuses it with 7
   pub in_range_lem : (window ssthresh : ℕ) → fresh_reply window ssthresh ≡ answer tt → InRange (fresh_with window ssthresh)
   pub unusable : (window ssthresh n : ℕ) → fresh_reply window ssthresh ≡ refuse n → in_range (fresh_with window ssthresh) ≡ false

@@ -7,12 +7,16 @@ use Rattle.wire_rules.specs.Rates.Steps.{top_code}
 use Rattle.wire_rules.specs.Options.Wire.{nonce_limit}
 use Rattle.sender_rules.specs.declared.State.{State}
 use Rattle.sender_rules.specs.declared.State.TheVariants.{Idle, Asked, Quick}
-use Rattle.sender_rules.specs.declared.Moment.{Moment}
-use Rattle.sender_rules.specs.declared.Moment.TheVariants as Moments
-use Rattle.sender_rules.specs.declared.Mark.{Mark}
-use Rattle.sender_rules.specs.declared.Mark.TheVariants as Marks
+use Rattle.std.specs.Prelude.{Option, None, Some}
 use Rattle.sender_rules.specs.declared.Sample.{Sample}
 use Rattle.sender_rules.specs.declared.Connection.{Connection}
+
+-- a time in microseconds, or none; and the highest number sent when the window was last lowered for an echo, or none
+abbrev pub Moment : Type 0
+Moment = Option ℕ
+
+abbrev pub Mark : Type 0
+Mark = Option ℕ
 
 -- "A, flight and ssthresh at most 2^40; window 1 to 2^40; .. sample bytes at most 2^40"
 abbrev pub most_bytes : ℕ
@@ -28,8 +32,8 @@ samples_of c = take c.count c.samples
 
 -- "time .. before the stored one"
 unfoldable pub is_before : ℕ → Moment → Bool
-is_before time Moments.Absent = false
-is_before time (Moments.At stored) = ltb time stored
+is_before time None = false
+is_before time (Some stored) = ltb time stored
 
 -- ---- ranges
 
@@ -56,11 +60,11 @@ fresh_with window ssthresh = record {
   state = Idle;
   window = window;
   ssthresh = ssthresh;
-  last_request = Moments.Absent;
-  mark = Marks.Absent;
+  last_request = None;
+  mark = None;
   samples = replicate most_samples (record { time = 0; bytes = 0 });
   count = 0;
-  period = Moments.Absent;
+  period = None;
 }
 
 -- "window 1 to 2^40", ssthresh "at most 2^40", else 7

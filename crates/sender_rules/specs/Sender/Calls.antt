@@ -9,33 +9,21 @@ use Rattle.wire_rules.specs.Options.Wire.{option_length, nonce_limit, top_ttl}
 use Rattle.wire_rules.specs.Options.Nonces.{agree}
 use Rattle.wire_rules.specs.Options.Requests.{request_written}
 use Rattle.wire_rules.specs.Options.Responses.{ttl_diff, response_read}
+use Rattle.wire_rules.specs.declared.Transport.{Transport}
+use Rattle.sender_rules.specs.declared.Wish.{Wish}
 use Rattle.sender_rules.specs.declared.OpenRequest.{OpenRequest}
 use Rattle.sender_rules.specs.declared.Before.{Before}
 use Rattle.sender_rules.specs.declared.State.{State}
 use Rattle.sender_rules.specs.declared.State.TheVariants.{Idle, Asked, Quick}
-use Rattle.sender_rules.specs.declared.Moment.{Moment}
-use Rattle.sender_rules.specs.declared.Moment.TheVariants.{Absent, At}
+use Rattle.std.specs.Prelude.{None, Some}
 use Rattle.sender_rules.specs.declared.Connection.{Connection}
-use Rattle.sender_rules.specs.Connections.Records.{most_bytes, is_before, in_range, with_state, with_window, with_last_request}
+use Rattle.sender_rules.specs.Connections.Records.{most_bytes, is_before, in_range, with_state, with_window, with_last_request, Moment}
 
 -- what a sender asks with: the code, the starting IP TTL and QS TTL, the nonce, the round trip T and the time
-pub record Wish : Type 0 where
-  pub code : ℕ
-  pub ttl : ℕ
-  pub qs : ℕ
-  pub nonce : ℕ
-  pub rtt : ℕ
-  pub time : ℕ
-
 abbrev pub wish : ℕ → ℕ → ℕ → ℕ → ℕ → ℕ → Wish
-wish code ttl qs nonce rtt time = record { code = code; ttl = ttl; qs = qs; nonce = nonce; rtt = rtt; time = time }
+wish code ttl qs nonce rtt time = record { code = code; ttl = ttl; qs_ttl = qs; nonce = nonce; rtt = rtt; time = time }
 
 -- T, MSS and H
-pub record Transport : Type 0 where
-  pub rtt : ℕ
-  pub mss : ℕ
-  pub headers : ℕ
-
 abbrev pub transport : ℕ → ℕ → ℕ → Transport
 transport rtt mss headers = record { rtt = rtt; mss = mss; headers = headers }
 
@@ -62,12 +50,12 @@ is_busy (Quick before) = true
 
 -- "less than the round trip T has passed since the last request"
 unfoldable pub is_soon : ℕ → ℕ → Moment → Bool
-is_soon time rtt Absent = false
-is_soon time rtt (At last) = ltb time (last + rtt)
+is_soon time rtt None = false
+is_soon time rtt (Some last) = ltb time (last + rtt)
 
 -- "the state is asked with the starting TTL Diff, and the time is kept"
 abbrev pub asked : Connection → Wish → Connection
-asked c w = with_last_request (with_state c (Asked (record { code = w.code; ttl_diff = ttl_diff w.ttl w.qs; nonce = w.nonce }))) (At w.time)
+asked c w = with_last_request (with_state c (Asked (record { code = w.code; ttl_diff = ttl_diff w.ttl w.qs_ttl; nonce = w.nonce }))) (Some w.time)
 
 -- "Asking: order 7, 9, 10. .. Else it writes the request, with any starting QS TTL"
 abbrev pub ask_reply : Connection → Wish → List ℕ → Reply Sending
@@ -76,7 +64,7 @@ ask_reply c w buffer =
     (pick (is_before w.time c.last_request) (refuse 9)
     (pick (is_busy c.state) (refuse 10)
     (pick (is_soon w.time w.rtt c.last_request) (refuse 10)
-    (and_then (request_written buffer w.code w.qs w.nonce) (λ request. answer (sending (asked c w) request))))))
+    (and_then (request_written buffer w.code w.qs_ttl w.nonce) (λ request. answer (sending (asked c w) request))))))
     (refuse 7)
 
 -- ---- the response

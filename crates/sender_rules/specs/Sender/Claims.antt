@@ -10,16 +10,18 @@ use Rattle.wire_rules.specs.Options.Responses.{response_read}
 use Rattle.sender_rules.specs.declared.OpenRequest.{OpenRequest}
 use Rattle.sender_rules.specs.declared.Before.{Before}
 use Rattle.sender_rules.specs.declared.State.TheVariants.{Idle, Asked, Quick}
-use Rattle.sender_rules.specs.declared.Moment.TheVariants.{At}
+use Rattle.std.specs.Prelude.{Some}
 use Rattle.sender_rules.specs.declared.Connection.{Connection}
 use Rattle.sender_rules.specs.Connections.Records.{fresh_with, with_state, with_window, with_last_request}
 use Rattle.sender_rules.specs.Connections.Claims.{InRange}
-use Rattle.sender_rules.specs.Sender.Calls.{Wish, wish, Transport, transport, Sending, sending, Sender, sender_calls}
+use Rattle.sender_rules.specs.Sender.Calls.{wish, transport, Sending, sending, Sender, sender_calls}
+use Rattle.wire_rules.specs.declared.Transport.{Transport}
+use Rattle.sender_rules.specs.declared.Wish.{Wish}
 
 -- ---- what a function's arguments are handed on as
 
 pub record Lending : Type 0 where
-  pub wish_is : (code ttl qs nonce rtt time : ℕ) → wish code ttl qs nonce rtt time ≡ record { code = code; ttl = ttl; qs = qs; nonce = nonce; rtt = rtt; time = time }
+  pub wish_is : (code ttl qs nonce rtt time : ℕ) → wish code ttl qs nonce rtt time ≡ record { code = code; ttl = ttl; qs_ttl = qs; nonce = nonce; rtt = rtt; time = time }
   pub transport_is : (rtt mss headers : ℕ) → transport rtt mss headers ≡ record { rtt = rtt; mss = mss; headers = headers }
   pub sending_is : (c : Connection) (request : List ℕ) → sending c request ≡ record { connection = c; request = request }
 
@@ -42,29 +44,29 @@ pub record AskGiven (c : Connection) (w : Wish) (buffer : List ℕ) : Type 0 whe
 -- and nonce.
 pub record Sent (c : Connection) (w : Wish) (left : Sending) : Type 0 where
   pub bytes : Bytes left.request
-  pub reads : request_read left.request ≡ answer (record { rate = w.code; qs_ttl = w.qs; nonce = w.nonce })
+  pub reads : request_read left.request ≡ answer (record { rate = w.code; qs_ttl = w.qs_ttl; nonce = w.nonce })
   pub reserved : reserved_in left.request ≡ 0
   -- "asked with the starting TTL Diff, and the time is kept"; all else stays
   pub diff : ℕ
   pub diff_byte : diff < 256
-  pub diff_is : (diff + w.qs) % 256 ≡ w.ttl
-  pub connection_is : left.connection ≡ with_last_request (with_state c (Asked (record { code = w.code; ttl_diff = diff; nonce = w.nonce }))) (At w.time)
+  pub diff_is : (diff + w.qs_ttl) % 256 ≡ w.ttl
+  pub connection_is : left.connection ≡ with_last_request (with_state c (Asked (record { code = w.code; ttl_diff = diff; nonce = w.nonce }))) (Some w.time)
 
 -- "Asking: order 7, 9, 10."
 pub record Asks (s : Sender) : Type 0 where
   pub seven : (c : Connection) (w : Wish) (buffer : List ℕ) → (AskGiven c w buffer → ⊥) → s.ask c w buffer ≡ refusing 7 (sending c buffer)
   -- "time .. before the stored one"
-  pub nine : (c : Connection) (w : Wish) (buffer : List ℕ) (last : ℕ) → AskGiven c w buffer → c.last_request ≡ At last → w.time < last → s.ask c w buffer ≡ refusing 9 (sending c buffer)
+  pub nine : (c : Connection) (w : Wish) (buffer : List ℕ) (last : ℕ) → AskGiven c w buffer → c.last_request ≡ Some last → w.time < last → s.ask c w buffer ≡ refusing 9 (sending c buffer)
   -- "Refused with 10 exactly while asked or quick, or when less than the round trip T has passed since the last request."
   pub ten_asked : (c : Connection) (w : Wish) (buffer : List ℕ) (q : OpenRequest) → AskGiven c w buffer → c.state ≡ Asked q
-      → ((last : ℕ) → c.last_request ≡ At last → last ≤ w.time) → s.ask c w buffer ≡ refusing 10 (sending c buffer)
+      → ((last : ℕ) → c.last_request ≡ Some last → last ≤ w.time) → s.ask c w buffer ≡ refusing 10 (sending c buffer)
   pub ten_quick : (c : Connection) (w : Wish) (buffer : List ℕ) (b : Before) → AskGiven c w buffer → c.state ≡ Quick b
-      → ((last : ℕ) → c.last_request ≡ At last → last ≤ w.time) → s.ask c w buffer ≡ refusing 10 (sending c buffer)
-  pub ten_soon : (c : Connection) (w : Wish) (buffer : List ℕ) (last : ℕ) → AskGiven c w buffer → c.last_request ≡ At last → last ≤ w.time → w.time < last + w.rtt
+      → ((last : ℕ) → c.last_request ≡ Some last → last ≤ w.time) → s.ask c w buffer ≡ refusing 10 (sending c buffer)
+  pub ten_soon : (c : Connection) (w : Wish) (buffer : List ℕ) (last : ℕ) → AskGiven c w buffer → c.last_request ≡ Some last → last ≤ w.time → w.time < last + w.rtt
       → s.ask c w buffer ≡ refusing 10 (sending c buffer)
   -- "Else it writes the request, with any starting QS TTL"
-  pub sent : (c : Connection) (w : Wish) (buffer : List ℕ) → AskGiven c w buffer → w.qs < 256 → c.state ≡ Idle
-      → ((last : ℕ) → c.last_request ≡ At last → last + w.rtt ≤ w.time) → ((s.ask c w buffer).said ≡ answer tt) × Sent c w (s.ask c w buffer).left
+  pub sent : (c : Connection) (w : Wish) (buffer : List ℕ) → AskGiven c w buffer → w.qs_ttl < 256 → c.state ≡ Idle
+      → ((last : ℕ) → c.last_request ≡ Some last → last + w.rtt ≤ w.time) → ((s.ask c w buffer).said ≡ answer tt) × Sent c w (s.ask c w buffer).left
 
 -- ---- the response
 
@@ -146,7 +148,7 @@ pub record Ours : Type 0 where
 
 -- whatever sender has these says and leaves what ours does: for every record, all numbers and every buffer, a QS TTL being a byte
 pub record SenderOnly : Type 0 where
-  pub ask : (s : Sender) → Asks s → (c : Connection) (w : Wish) (buffer : List ℕ) → w.qs < 256 → s.ask c w buffer ≡ sender_calls.ask c w buffer
+  pub ask : (s : Sender) → Asks s → (c : Connection) (w : Wish) (buffer : List ℕ) → w.qs_ttl < 256 → s.ask c w buffer ≡ sender_calls.ask c w buffer
   pub take_response : (s : Sender) → Takes s → (c : Connection) (response : List ℕ) (t : Transport) → s.take_response c response t ≡ sender_calls.take_response c response t
   pub acknowledged : (s : Sender) → Ends s → (c : Connection) (flight : ℕ) → s.acknowledged c flight ≡ sender_calls.acknowledged c flight
   pub lost : (s : Sender) → Ends s → (c : Connection) → s.lost c ≡ sender_calls.lost c
@@ -157,8 +159,8 @@ pub record SenderOnly : Type 0 where
 -- an asking that was accepted was in range, from an idle record whose last request, if there was one, is a round trip or more ago; and it
 -- wrote the request that its record describes
 abbrev pub SentOnly : Type 0
-SentOnly = (c : Connection) (w : Wish) (buffer : List ℕ) → w.qs < 256 → (sender_calls.ask c w buffer).said ≡ answer tt
-    → AskGiven c w buffer × (c.state ≡ Idle) × ((last : ℕ) → c.last_request ≡ At last → last + w.rtt ≤ w.time) × Sent c w (sender_calls.ask c w buffer).left
+SentOnly = (c : Connection) (w : Wish) (buffer : List ℕ) → w.qs_ttl < 256 → (sender_calls.ask c w buffer).said ≡ answer tt
+    → AskGiven c w buffer × (c.state ≡ Idle) × ((last : ℕ) → c.last_request ≡ Some last → last + w.rtt ≤ w.time) × Sent c w (sender_calls.ask c w buffer).left
 
 -- "accepted exactly when": what was accepted had fit
 abbrev pub AcceptedOnly : Type 0
@@ -177,7 +179,7 @@ pub record StaysInRange : Type 0 where
   pub lost : (c : Connection) → InRange c → InRange (sender_calls.lost c).left
   pub gave_up : (c : Connection) → InRange c → InRange (sender_calls.gave_up c).left
 
--- a refused call hands the record back unchanged, and the buffer; 13, 14 and 15 end the open request and change nothing else
+-- a refused call leaves the record as it was, and the buffer; 13, 14 and 15 end the open request and change nothing else
 pub record Unchanged : Type 0 where
   pub ask : (c : Connection) (w : Wish) (buffer : List ℕ) (n : ℕ) → (sender_calls.ask c w buffer).said ≡ refuse n → (sender_calls.ask c w buffer).left ≡ sending c buffer
   pub take_response : (c : Connection) (response : List ℕ) (t : Transport) (n : ℕ) → (sender_calls.take_response c response t).said ≡ refuse n
@@ -219,4 +221,4 @@ pub record ShutOut : Type 0 where
   -- "a sender that always says code 1": of what it accepts it says that the rate is 1, whatever it leaves; or it asks for code 1
   pub always_code_1 : (left : Connection → List ℕ → Transport → Connection)
       → Takes (taking_by (λ c response t. record { said = accepting (sender_calls.take_response c response t).said 1; left = left c response t })) → ⊥
-  pub always_asks_1 : Asks (asking_by (λ c w buffer. sender_calls.ask c (wish 1 w.ttl w.qs w.nonce w.rtt w.time) buffer)) → ⊥
+  pub always_asks_1 : Asks (asking_by (λ c w buffer. sender_calls.ask c (wish 1 w.ttl w.qs_ttl w.nonce w.rtt w.time) buffer)) → ⊥

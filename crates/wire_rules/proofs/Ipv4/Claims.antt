@@ -9,7 +9,7 @@ use native.Mathlib.Omega.{arith}
 use borrow.Author.Tests.{ne_eqb}
 use lib.ListN.{set, length-set}
 use lib.Seq.{get_or-set_same, get_or-set_other}
-use Rattle.wire_rules.specs.declared.Place.TheVariants.{Nowhere, At}
+use Rattle.std.specs.Prelude.{None, Some}
 use Rattle.wire_rules.proofs.Walk.Claims.{walking_theorem}
 use Rattle.wire_rules.specs.Ipv4.Headers.{checksum_in, header_of, options_of}
 use Rattle.wire_rules.specs.Ipv4.Checksums.{all_ones, ones_sum, with_checksum, checksum_of, sealed}
@@ -84,11 +84,11 @@ pub locating : Locating
 locating = record {
   inside = puts.at_place;
   refused = λ reach n packet e. ap (λ (r : Reply ℕ). and_then r (λ header. walked packet)) e;
-  complete = λ reach h offset packet e holds. located_of reach h packet (At offset) e (walking_theorem.complete (options_of packet) offset holds);
-  none_complete = λ reach h packet e clear. located_of reach h packet Nowhere e (walking_theorem.none_complete (options_of packet) clear);
+  complete = λ reach h offset packet e holds. located_of reach h packet (Some offset) e (walking_theorem.complete (options_of packet) offset holds);
+  none_complete = λ reach h packet e clear. located_of reach h packet None e (walking_theorem.none_complete (options_of packet) clear);
   fault_complete = λ reach h n packet e fault. located_fault reach h n packet e (walking_theorem.fault_complete (options_of packet) n fault);
-  sound = λ reach place packet e. let f = found reach packet (At place) e in made_of packet place f.inner f.by_walk f.moved;
-  none_sound = λ reach packet e. let f = found reach packet Nowhere e in made_clear packet f.inner f.by_walk f.moved;
+  sound = λ reach place packet e. let f = found reach packet (Some place) e in made_of packet place f.inner f.by_walk f.moved;
+  none_sound = λ reach packet e. let f = found reach packet None e in made_clear packet f.inner f.by_walk f.moved;
   fault_sound = made_faulty;
 }
 

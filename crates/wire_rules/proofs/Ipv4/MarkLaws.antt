@@ -3,7 +3,7 @@ use Prim.Native.Nat.{ℕ, ◌+◌, ◌*◌, ◌/◌, ◌%◌, ◌≤◌, ◌<◌
 use mathlib.Core.Bool.{Bool, true, false}
 use mathlib.Core.List.{List}
 use mathlib.Core.Logic.{inl, ⊎_elim}
-use mathlib.Core.Option.{Option}
+use Rattle.std.specs.Prelude.{Option, None, Some}
 use mathlib.Core.Path.{◌≡◌, refl, sym, ap, ap₂, ◌∙◌}
 use native.Mathlib.Omega.{arith}
 use borrow.Author.Tests.{eqb-true, eqb-false}
@@ -18,14 +18,14 @@ use Rattle.refusals.specs.Reply.{Reply, answer, refuse, and_then}
 use Rattle.wire_rules.specs.declared.Request.{Request}
 use Rattle.wire_rules.specs.Options.Wire.{option_length}
 use Rattle.wire_rules.specs.Options.Requests.{request_read}
-use Rattle.wire_rules.specs.declared.Place.{Place}
-use Rattle.wire_rules.specs.declared.Place.TheVariants.{Nowhere, At}
-use Rattle.wire_rules.specs.Walk.Walks.{walk}
+use Rattle.wire_rules.specs.Walk.Walks.{walk, Place}
 use Rattle.wire_rules.specs.Ipv4.Headers.{options_place, ecn_place, ttl_place, ip_ttl, header_length}
 use Rattle.wire_rules.specs.Ipv4.Checksums.{sealed}
 use Rattle.wire_rules.specs.Ipv4.Checks.{well_formed, header_checked}
 use Rattle.wire_rules.specs.Ipv4.Packets.{in_packet, walked, located}
-use Rattle.wire_rules.specs.Ipv4.Marks.{Mark, marked, dropped, ect_set, with_ce, mark_reply, after_mark, marked_packet}
+use Rattle.wire_rules.specs.Ipv4.Marks.{ect_set, with_ce, mark_reply, after_mark, marked_packet}
+use Rattle.wire_rules.specs.declared.Marking.{Marking}
+use Rattle.wire_rules.specs.declared.Marking.TheVariants.{Marked, Dropped}
 use Rattle.wire_rules.specs.Ipv4.Views.{as_request, request_at, view}
 use Rattle.wire_rules.specs.Ipv4.Claims.{OutsideChecksum, EcnMarking, MarkingTheorem, MarkingOnly, MarkedStill}
 use Rattle.wire_rules.proofs.Ipv4.ChecksumLaws.{length_sealed}
@@ -38,20 +38,20 @@ use Rattle.wire_rules.proofs.Ipv4.PutLaws.{request_sealed}
 use Rattle.wire_rules.proofs.Ipv4.SealLaws as seals
 
 -- what is proved of each decision holds of what marking answers and leaves
-by_mark : (packet : List ℕ) (P : Reply Mark → List ℕ → Type 0)
+by_mark : (packet : List ℕ) (P : Reply Marking → List ℕ → Type 0)
     → ((n : ℕ) → header_checked (length packet) packet ≡ refuse n → P (refuse n) packet)
-    → ((h : ℕ) → header_checked (length packet) packet ≡ answer h → ect_set (get_or packet ecn_place 0) ≡ false → P (answer dropped) packet)
+    → ((h : ℕ) → header_checked (length packet) packet ≡ answer h → ect_set (get_or packet ecn_place 0) ≡ false → P (answer Dropped) packet)
     → ((h : ℕ) → header_checked (length packet) packet ≡ answer h → ect_set (get_or packet ecn_place 0) ≡ true
-    → P (answer marked) (sealed (set packet ecn_place (with_ce (get_or packet ecn_place 0)))))
+    → P (answer Marked) (sealed (set packet ecn_place (with_ce (get_or packet ecn_place 0)))))
     → P (mark_reply packet) (marked_packet packet)
 by_mark packet P f g m = go (header_checked (length packet) packet) refl
   where
-    decided : Reply ℕ → Reply Mark
-    decided r = and_then r (λ header. answer (pick (ect_set (get_or packet ecn_place 0)) marked dropped))
+    decided : Reply ℕ → Reply Marking
+    decided r = and_then r (λ header. answer (pick (ect_set (get_or packet ecn_place 0)) Marked Dropped))
 
     go : (r : Reply ℕ) → header_checked (length packet) packet ≡ r → P (decided r) (after_mark packet (decided r))
     go (refuse n) e = f n e
-    go (answer h) e = by_test (λ (d : Mark). P (answer d) (after_mark packet (answer d))) (ect_set (get_or packet ecn_place 0)) (m h e) (g h e)
+    go (answer h) e = by_test (λ (d : Marking). P (answer d) (after_mark packet (answer d))) (ect_set (get_or packet ecn_place 0)) (m h e) (g h e)
 
 -- CE set beside ECT: ECT stays, a second time nothing changes, both bits are set and the other six stay
 ce_keeps : (b : ℕ) → b / 2 % 2 ≡ 1 → (with_ce b / 2 % 2 ≡ 1) × (with_ce b ≡ with_ce (with_ce b)) × (with_ce b % 4 ≡ 3) × (with_ce b / 4 ≡ b / 4)
@@ -99,7 +99,7 @@ module _ (packet : List ℕ) where
     long_after : length (sealed flagged) ≡ length packet
     long_after = length_sealed flagged ∙ length-set packet ecn_place (with_ce byte)
 
-    mark_again : Bytes packet → ect_set byte ≡ true → (mark_reply (sealed flagged) ≡ answer marked) × (marked_packet (sealed flagged) ≡ sealed flagged)
+    mark_again : Bytes packet → ect_set byte ≡ true → (mark_reply (sealed flagged) ≡ answer Marked) × (marked_packet (sealed flagged) ≡ sealed flagged)
     mark_again b t =
         let s = sealed flagged in
         let k = ce_keeps byte (ect byte t) in
@@ -118,9 +118,9 @@ module _ (packet : List ℕ) where
 
     -- the bytes that are viewed are not among those that change
     flagged_request : (inner : Place) → request_at (in_packet inner) (sealed flagged) ≡ request_at (in_packet inner) packet
-    flagged_request Nowhere = refl
-    flagged_request (At o) =
-        request_sealed (At o) flagged
+    flagged_request None = refl
+    flagged_request (Some o) =
+        request_sealed (Some o) flagged
         ∙ ap (λ (l : List ℕ). as_request (request_read (take option_length l))) (drop-set-lt (options_place + o) packet ecn_place (with_ce byte) (omega arith))
 
     flagged_ttl : ip_ttl (sealed flagged) ≡ ip_ttl packet
@@ -149,17 +149,17 @@ marking_theorem = record {
   dropped_same = λ packet e. ap (after_mark packet) e;
   refused_same = λ n packet e. ap (after_mark packet) e;
   others = λ packet i n c.
-      by_mark packet (λ (r : Reply Mark) (l : List ℕ). get_or l i 0 ≡ get_or packet i 0)
+      by_mark packet (λ (r : Reply Marking) (l : List ℕ). get_or l i 0 ≡ get_or packet i 0)
       (λ m e. refl)
       (λ h e t. refl)
       (λ h e t. sealed_others (flagged packet) i c ∙ get_or-set_other packet ecn_place i (with_ce (byte packet)) 0 n);
   long = λ packet.
-      by_mark packet (λ (r : Reply Mark) (l : List ℕ). length l ≡ length packet)
+      by_mark packet (λ (r : Reply Marking) (l : List ℕ). length l ≡ length packet)
       (λ m e. refl)
       (λ h e t. refl)
       (λ h e t. long_after packet h e);
   bits = λ packet.
-      by_mark packet (λ (r : Reply Mark) (l : List ℕ). r ≡ answer marked → (get_or l ecn_place 0 % 4 ≡ 3) × (get_or l ecn_place 0 / 4 ≡ byte packet / 4))
+      by_mark packet (λ (r : Reply Marking) (l : List ℕ). r ≡ answer Marked → (get_or l ecn_place 0 % 4 ≡ 3) × (get_or l ecn_place 0 / 4 ≡ byte packet / 4))
       (λ m e x. absurd (clash (cc)))
       (λ h e t x. absurd (clash (cc)))
       (λ h e t x.
@@ -167,7 +167,7 @@ marking_theorem = record {
       let k = ce_keeps (byte packet) (ect (byte packet) t) in
       (ap (λ (n : ℕ). n % 4) a ∙ k.2, ap (λ (n : ℕ). n / 4) a ∙ k.3));
   written = λ packet.
-      by_mark packet (λ (r : Reply Mark) (l : List ℕ). r ≡ answer marked → sealed l ≡ l)
+      by_mark packet (λ (r : Reply Marking) (l : List ℕ). r ≡ answer Marked → sealed l ≡ l)
       (λ m e x. absurd (clash (cc)))
       (λ h e t x. absurd (clash (cc)))
       (λ h e t x. seals.again (length packet) (flagged packet) (form (length packet) (flagged packet) (flagged_well packet h e)));
@@ -176,27 +176,27 @@ marking_theorem = record {
 pub marked_still : MarkedStill
 marked_still = record {
   bytes = λ packet b.
-      by_mark packet (λ (r : Reply Mark) (l : List ℕ). Bytes l)
+      by_mark packet (λ (r : Reply Marking) (l : List ℕ). Bytes l)
       (λ m e. b)
       (λ h e t. b)
       (λ h e t. bytes_sealed (flagged packet) (bytes_flagged packet b));
   twice = λ packet b.
-      by_mark packet (λ (r : Reply Mark) (l : List ℕ). (mark_reply l ≡ r) × (marked_packet l ≡ l))
+      by_mark packet (λ (r : Reply Marking) (l : List ℕ). (mark_reply l ≡ r) × (marked_packet l ≡ l))
       (λ n e. let m = mark_refused packet n (sym e) in (sym m.0, sym m.1))
       (λ h e t. let m = mark_drop packet h (sym e) (no_ect (byte packet) t) in (sym m.0, sym m.1))
       (λ h e t. mark_again packet h e b t);
   passes = λ packet b.
-      by_mark packet (λ (r : Reply Mark) (l : List ℕ). header_checked (length packet) l ≡ header_checked (length packet) packet)
+      by_mark packet (λ (r : Reply Marking) (l : List ℕ). header_checked (length packet) l ≡ header_checked (length packet) packet)
       (λ m e. refl)
       (λ h e t. refl)
       (λ h e t. flagged_passes packet h e b);
   located_still = λ packet b.
-      by_mark packet (λ (r : Reply Mark) (l : List ℕ). located (length packet) l ≡ located (length packet) packet)
+      by_mark packet (λ (r : Reply Marking) (l : List ℕ). located (length packet) l ≡ located (length packet) packet)
       (λ m e. refl)
       (λ h e t. refl)
       (λ h e t. flagged_located packet h e b);
   viewed_still = λ packet b.
-      by_mark packet (λ (r : Reply Mark) (l : List ℕ). view (length packet) l ≡ view (length packet) packet)
+      by_mark packet (λ (r : Reply Marking) (l : List ℕ). view (length packet) l ≡ view (length packet) packet)
       (λ m e. refl)
       (λ h e t. refl)
       (λ h e t. flagged_viewed packet h e b);
@@ -212,11 +212,11 @@ same_size : (x y : List ℕ) → get_or x 0 0 ≡ get_or y 0 0 → header_length
 unfolding header_length
 same_size x y e = ap (λ (b : ℕ). b % 16 * 4) e
 
-module _ (reply : List ℕ → Reply Mark) (left : List ℕ → List ℕ) (m : EcnMarking reply left) (packet : List ℕ) where
+module _ (reply : List ℕ → Reply Marking) (left : List ℕ → List ℕ) (m : EcnMarking reply left) (packet : List ℕ) where
   abbrev Same : Type 0
   Same = (reply packet ≡ mark_reply packet) × (left packet ≡ marked_packet packet)
 
-  marked_alike : (h : ℕ) → header_checked (length packet) packet ≡ answer h → reply packet ≡ answer marked → mark_reply packet ≡ answer marked → left packet ≡ marked_packet packet
+  marked_alike : (h : ℕ) → header_checked (length packet) packet ≡ answer h → reply packet ≡ answer Marked → mark_reply packet ≡ answer Marked → left packet ≡ marked_packet packet
   marked_alike h e r s =
       let f = is_good packet h e in
       let ours = marking_theorem.bits packet s in

@@ -2,7 +2,7 @@
 use Prim.Native.Nat.{ℕ, suc, ◌+◌, ◌-◌, ◌*◌, ◌/◌, ◌%◌, ◌<◌}
 use mathlib.Core.List.{List}
 use mathlib.Core.Logic.{◌⊎◌, inl, inr}
-use mathlib.Core.Option.{none, some}
+use Rattle.std.specs.Prelude.{None, Some}
 use mathlib.Core.Path.{◌≡◌, refl, sym, ap, ap₂, subst, ◌∙◌}
 use native.Mathlib.Nat.{add-zero}
 use native.Mathlib.Omega.{arith}
@@ -14,9 +14,7 @@ use Rattle.refusals.specs.Reply.{Reply, answer, refuse, and_then}
 use Rattle.refusals.proofs.ReplyLaws.{same_answer, through, refused_by}
 use Rattle.wire_rules.specs.Options.Wire.{option_length, kind_in, length_in, high_half, word_of, rate_in, ttl_in, nonce_in}
 use Rattle.wire_rules.specs.Options.Requests.{request_kind, is_request, request_read}
-use Rattle.wire_rules.specs.declared.Place.{Place}
-use Rattle.wire_rules.specs.declared.Place.TheVariants.{Nowhere, At}
-use Rattle.wire_rules.specs.Walk.Walks.{walk}
+use Rattle.wire_rules.specs.Walk.Walks.{walk, Place}
 use Rattle.wire_rules.specs.Walk.Claims.{Holds, Clear, Faulty}
 use Rattle.wire_rules.proofs.Walk.Claims.{walking_theorem}
 use Rattle.wire_rules.specs.Ipv4.Headers.{options_place, word_at, ip_ttl, header_length, header_of, options_of}
@@ -41,7 +39,7 @@ found reach packet place e =
     record { is_good = (good reach outer.0 packet (sym outer.1)).0; inner = inside.0; by_walk = inside.1; moved = same_answer (sym inside.2) }
 
 -- the offset in the area, as a place in the packet
-pub inside_at : (reach : ℕ) (packet : List ℕ) (o : ℕ) → Good reach packet → walk (options_of packet) ≡ answer (At o) → Inside (options_place + o) packet
+pub inside_at : (reach : ℕ) (packet : List ℕ) (o : ℕ) → Good reach packet → walk (options_of packet) ≡ answer (Some o) → Inside (options_place + o) packet
 inside_at reach packet o g e =
     let h = header_length packet in
     let f = g.form_is in
@@ -57,9 +55,9 @@ inside_at reach packet o g e =
       len = ap (λ (k : ℕ). get_or packet k 0) {x = suc (options_place + o)} {y = options_place + suc o} (omega arith) ∙ sym (read (suc o) (omega (arith, r.0, g.header))) ∙ r.2;
     }
 
-pub inside_of : (reach : ℕ) (packet : List ℕ) (place : ℕ) (inner : Place) → Good reach packet → walk (options_of packet) ≡ answer inner → At place ≡ in_packet inner → Inside place packet
-inside_of reach packet place Nowhere g w e = absurd (clash (cc))
-inside_of reach packet place (At o) g w e = let s : options_place + o ≡ place = cc in subst (λ (k : ℕ). Inside k packet) s (inside_at reach packet o g w)
+pub inside_of : (reach : ℕ) (packet : List ℕ) (place : ℕ) (inner : Place) → Good reach packet → walk (options_of packet) ≡ answer inner → Some place ≡ in_packet inner → Inside place packet
+inside_of reach packet place None g w e = absurd (clash (cc))
+inside_of reach packet place (Some o) g w e = let s : options_place + o ≡ place = cc in subst (λ (k : ℕ). Inside k packet) s (inside_at reach packet o g w)
 
 -- a packet whose header passed its check is located by its walk
 pub located_of : (reach h : ℕ) (packet : List ℕ) (inner : Place) → header_checked reach packet ≡ answer h → walk (options_of packet) ≡ answer inner → located reach packet ≡ answer (in_packet inner)
@@ -71,14 +69,14 @@ located_fault reach h n packet e w =
     ap (λ (r : Reply ℕ). and_then r (λ header. walked packet)) e ∙ ap (λ (r : Reply Place). and_then r (λ place. answer (in_packet place))) w
 
 -- what the area is made of, where an option was located, and where none was
-pub made_of : (packet : List ℕ) (place : ℕ) (inner : Place) → walk (options_of packet) ≡ answer inner → At place ≡ in_packet inner
+pub made_of : (packet : List ℕ) (place : ℕ) (inner : Place) → walk (options_of packet) ≡ answer inner → Some place ≡ in_packet inner
     → (offset : ℕ) × (place ≡ options_place + offset) × Holds offset (options_of packet)
-made_of packet place Nowhere w e = absurd (clash (cc))
-made_of packet place (At o) w e = (o, (cc), walking_theorem.sound (options_of packet) o w)
+made_of packet place None w e = absurd (clash (cc))
+made_of packet place (Some o) w e = (o, (cc), walking_theorem.sound (options_of packet) o w)
 
-pub made_clear : (packet : List ℕ) (inner : Place) → walk (options_of packet) ≡ answer inner → Nowhere ≡ in_packet inner → Clear (options_of packet)
-made_clear packet Nowhere w e = walking_theorem.none_sound (options_of packet) w
-made_clear packet (At o) w e = absurd (clash (cc))
+pub made_clear : (packet : List ℕ) (inner : Place) → walk (options_of packet) ≡ answer inner → None ≡ in_packet inner → Clear (options_of packet)
+made_clear packet None w e = walking_theorem.none_sound (options_of packet) w
+made_clear packet (Some o) w e = absurd (clash (cc))
 
 -- and what is wrong where the packet was refused: its header, or its area
 pub made_faulty : (reach n : ℕ) (packet : List ℕ) → located reach packet ≡ refuse n → (header_checked reach packet ≡ refuse n) ⊎ Faulty n (options_of packet)
@@ -155,8 +153,8 @@ module _ (place : ℕ) (packet : List ℕ) (at : Inside place packet) where
 
 -- the request that is there, and where there is none
 pub shown : (place : ℕ) (packet : List ℕ) → Inside place packet → get_or packet (place + 2) 0 / 16 ≡ 0
-    → request_at (At place) packet ≡ some (record { rate = get_or packet (place + 2) 0 % 16; qs_ttl = get_or packet (place + 3) 0; nonce = nonce_at place packet })
+    → request_at (Some place) packet ≡ Some (record { rate = get_or packet (place + 2) 0 % 16; qs_ttl = get_or packet (place + 3) 0; nonce = nonce_at place packet })
 shown place packet at z = ap as_request (option_reads place packet at z)
 
-pub shown_other : (place : ℕ) (packet : List ℕ) → Inside place packet → (get_or packet (place + 2) 0 / 16 ≡ 0 → ⊥) → request_at (At place) packet ≡ none
+pub shown_other : (place : ℕ) (packet : List ℕ) → Inside place packet → (get_or packet (place + 2) 0 / 16 ≡ 0 → ⊥) → request_at (Some place) packet ≡ None
 shown_other place packet at z = ap as_request (option_other place packet at z)

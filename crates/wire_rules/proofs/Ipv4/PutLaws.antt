@@ -3,7 +3,7 @@ use Prim.Native.Nat.{ℕ, suc, ◌+◌, ◌-◌, ◌/◌, ◌%◌, ◌≤◌, �
 use mathlib.Core.Bool.{true}
 use mathlib.Core.List.{List}
 use mathlib.Core.Logic.{inl}
-use mathlib.Core.Option.{Option, none, some}
+use Rattle.std.specs.Prelude.{Option, None, Some}
 use mathlib.Core.Path.{◌≡◌, refl, sym, ap, ap₂, subst, ◌∙◌}
 use native.Mathlib.Omega.{arith}
 use borrow.Author.Tests.{le-leb}
@@ -19,9 +19,7 @@ use Rattle.wire_rules.specs.Options.Wire.{option_length, reserved_in}
 use Rattle.wire_rules.specs.Options.Requests.{request_read, request_rewritten}
 use Rattle.wire_rules.proofs.Options.WireLaws.{word_small}
 use Rattle.wire_rules.proofs.Options.Claims.{request_is}
-use Rattle.wire_rules.specs.declared.Place.{Place}
-use Rattle.wire_rules.specs.declared.Place.TheVariants.{Nowhere, At}
-use Rattle.wire_rules.specs.Walk.Walks.{walk}
+use Rattle.wire_rules.specs.Walk.Walks.{walk, Place}
 use Rattle.wire_rules.specs.Ipv4.Headers.{least_header, options_place, ttl_place, checksum_place, ip_ttl, header_of, options_of}
 use Rattle.wire_rules.specs.Ipv4.Checksums.{with_checksum, checksum_of, sealed}
 use Rattle.wire_rules.specs.Ipv4.Checks.{well_formed, header_checked}
@@ -45,18 +43,18 @@ option_sealed place packet h =
     (drop-set-lt place (set packet checksum_place (c / 256)) (suc checksum_place) (c % 256) (omega arith) ∙ drop-set-lt place packet checksum_place (c / 256) (omega arith))
 
 pub request_sealed : (inner : Place) (packet : List ℕ) → request_at (in_packet inner) (sealed packet) ≡ request_at (in_packet inner) packet
-request_sealed Nowhere packet = refl
-request_sealed (At o) packet = ap (λ (l : List ℕ). as_request (request_read l)) (option_sealed (options_place + o) packet (omega arith))
+request_sealed None packet = refl
+request_sealed (Some o) packet = ap (λ (l : List ℕ). as_request (request_read l)) (option_sealed (options_place + o) packet (omega arith))
 
-place_low : (inner : Place) (o : ℕ) → in_packet inner ≡ At o → least_header ≤ o
-place_low Nowhere o e = absurd (clash (cc))
-place_low (At i) o e = let s : options_place + i ≡ o = cc in omega arith
+place_low : (inner : Place) (o : ℕ) → in_packet inner ≡ Some o → least_header ≤ o
+place_low None o e = absurd (clash (cc))
+place_low (Some i) o e = let s : options_place + i ≡ o = cc in omega arith
 
 -- put writes at the place that the walk finds
 pub put_at : (packet : List ℕ) (inner : Place) (v : View) → walk (options_of packet) ≡ answer inner
     → put packet v ≡ sealed (put_request (in_packet inner) v.request (set packet ttl_place v.ttl))
 put_at packet inner v e =
-    ap (λ (w : Reply Place). sealed (put_request (leaves Nowhere (and_then w (λ place. answer (in_packet place)))) v.request (set packet ttl_place v.ttl))) e
+    ap (λ (w : Reply Place). sealed (put_request (leaves None (and_then w (λ place. answer (in_packet place)))) v.request (set packet ttl_place v.ttl))) e
 
 module _ (reach : ℕ) (packet : List ℕ) (new : View) (b : Bytes packet) (fits : Fits new) (inner : Place) (g : Good reach packet) (w : walk (options_of packet) ≡ answer inner)
     (alike : asks (request_at (in_packet inner) packet) ≡ asks new.request) where
@@ -97,8 +95,8 @@ module _ (reach : ℕ) (packet : List ℕ) (new : View) (b : Bytes packet) (fits
 -- the request that is there, put there again, changes nothing
 own_at : (reach : ℕ) (packet after : List ℕ) (inner : Place) (request : Option Request) → Good reach packet → walk (options_of packet) ≡ answer inner
     → Bytes after → length after ≡ length packet → request_at (in_packet inner) after ≡ request → put_request (in_packet inner) request after ≡ after
-own_at reach packet after Nowhere request g w b l e = refl
-own_at reach packet after (At o) request g w b l e =
+own_at reach packet after None request g w b l e = refl
+own_at reach packet after (Some o) request g w b l e =
     let i = inside_at reach packet o g w in
     own_request (options_place + o) after request b (rw l (omega (arith, i.room, i.header))) e
 
@@ -124,25 +122,25 @@ request_in_lem option b (answer r) e =
     }
 
 request_fits : (place : Place) (packet : List ℕ) → Bytes packet → FitsWhere (request_at place packet)
-request_fits Nowhere packet b = tt
-request_fits (At o) packet b = request_in_lem (option_at o packet) (bytes_part option_length o packet b) (request_read (option_at o packet)) refl
+request_fits None packet b = tt
+request_fits (Some o) packet b = request_in_lem (option_at o packet) (bytes_part option_length o packet b) (request_read (option_at o packet)) refl
 
 view_fits : (reach : ℕ) (packet : List ℕ) (v : View) → Bytes packet → view reach packet ≡ answer v → Fits v
 view_fits reach packet v b e =
     let p = view_place reach packet v e in
     subst Fits (sym p.2) (record { ttl_small = b ttl_place; request_fits = request_fits p.0 packet b })
 
-pub at_place : (reach place : ℕ) (packet : List ℕ) → located reach packet ≡ answer (At place) → Inside place packet
-at_place reach place packet e = let f = found reach packet (At place) e in inside_of reach packet place f.inner f.is_good f.by_walk f.moved
+pub at_place : (reach place : ℕ) (packet : List ℕ) → located reach packet ≡ answer (Some place) → Inside place packet
+at_place reach place packet e = let f = found reach packet (Some place) e in inside_of reach packet place f.inner f.is_good f.by_walk f.moved
 
 pub viewing : Viewing
 unfolding sealed
 viewing = record {
   shows = λ reach place packet e z.
-      viewed_by reach packet (At place) e ∙ ap (λ (r : Option Request). answer (record { ttl = ip_ttl packet; request = r })) (shown place packet (at_place reach place packet e) z);
+      viewed_by reach packet (Some place) e ∙ ap (λ (r : Option Request). answer (record { ttl = ip_ttl packet; request = r })) (shown place packet (at_place reach place packet e) z);
   shows_other = λ reach place packet e z.
-      viewed_by reach packet (At place) e ∙ ap (λ (r : Option Request). answer (record { ttl = ip_ttl packet; request = r })) (shown_other place packet (at_place reach place packet e) z);
-  shows_none = λ reach packet e. viewed_by reach packet Nowhere e;
+      viewed_by reach packet (Some place) e ∙ ap (λ (r : Option Request). answer (record { ttl = ip_ttl packet; request = r })) (shown_other place packet (at_place reach place packet e) z);
+  shows_none = λ reach packet e. viewed_by reach packet None e;
   refused = λ reach n packet e. ap (λ (r : Reply Place). and_then r (λ place. answer (record { ttl = ip_ttl packet; request = request_at place packet }))) e;
   fits = view_fits;
   changes = λ reach packet place old new b l e fits alike.
@@ -160,9 +158,9 @@ viewing = record {
 -- a request put before the IP TTL is stored, or after
 put_commutes : (inner : Place) (request : Option Request) (packet : List ℕ) (ttl : ℕ)
     → set (put_request (in_packet inner) request packet) ttl_place ttl ≡ put_request (in_packet inner) request (set packet ttl_place ttl)
-put_commutes Nowhere request packet ttl = refl
-put_commutes (At o) none packet ttl = refl
-put_commutes (At o) (some r) packet ttl =
+put_commutes None request packet ttl = refl
+put_commutes (Some o) None packet ttl = refl
+put_commutes (Some o) (Some r) packet ttl =
     let place = options_place + o in
     let option : option_at place (set packet ttl_place ttl) ≡ option_at place packet = ap (take option_length) (drop-set-lt place packet ttl_place ttl (omega arith)) in
     let new = leaves (option_at place packet) (request_rewritten (option_at place packet) r.rate r.qs_ttl r.nonce) in

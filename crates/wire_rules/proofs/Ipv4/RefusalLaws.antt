@@ -6,8 +6,7 @@ use mathlib.Core.Path.{◌≡◌, refl}
 use lib.Dec.{leb, eqb}
 use Rattle.refusals.specs.Reply.{Reply, answer, refuse}
 use Rattle.refusals.proofs.ReplyLaws.{RefusedBy, chosen_by, then_by}
-use Rattle.wire_rules.specs.declared.Place.{Place}
-use Rattle.wire_rules.specs.Walk.Walks.{walk}
+use Rattle.wire_rules.specs.Walk.Walks.{walk, Place}
 use Rattle.wire_rules.specs.Walk.Claims.{Faulty, bad_length, other_length, second}
 use Rattle.wire_rules.proofs.Walk.Claims.{walking_theorem}
 use Rattle.wire_rules.specs.Ipv4.Headers.{ip_ttl, header_of, options_of}

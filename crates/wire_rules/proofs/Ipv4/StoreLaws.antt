@@ -3,7 +3,7 @@ use Prim.Native.Nat.{ℕ, suc, ◌+◌, ◌≤◌, ◌<◌}
 use mathlib.Core.Bool.{true, false}
 use mathlib.Core.List.{List}
 use mathlib.Core.Logic.{◌⊎◌, inl, inr}
-use mathlib.Core.Option.{Option, none, some}
+use Rattle.std.specs.Prelude.{Option, None, Some}
 use mathlib.Core.Path.{◌≡◌, refl, sym, ap, ap₂, subst, ◌∙◌}
 use native.Mathlib.Omega.{arith}
 use lib.Dec.{lit<}
@@ -18,9 +18,7 @@ use Rattle.wire_rules.specs.Options.Wire.{option_length, option_bytes, reserved_
 use Rattle.wire_rules.specs.Options.Requests.{request_kind, request_read, request_rewritten}
 use Rattle.wire_rules.proofs.Options.Claims.{request_round_trip, changed_option}
 use Rattle.wire_rules.proofs.Options.WireLaws.{bytes_of}
-use Rattle.wire_rules.specs.declared.Place.{Place}
-use Rattle.wire_rules.specs.declared.Place.TheVariants.{Nowhere, At}
-use Rattle.wire_rules.specs.Walk.Walks.{walk}
+use Rattle.wire_rules.specs.Walk.Walks.{walk, Place}
 use Rattle.wire_rules.proofs.Walk.Claims.{walking_theorem}
 use Rattle.wire_rules.specs.Ipv4.Headers.{least_header, options_place, ttl_place, ip_ttl, header_length, options_of}
 use Rattle.wire_rules.specs.Ipv4.Packets.{in_packet}
@@ -32,29 +30,29 @@ use Rattle.wire_rules.proofs.Ipv4.SealLaws.{same_form, options_set}
 
 -- bytes below 20 are no option's
 pub low_apart : (inner : Place) (request : Option Request) (i : ℕ) → i < least_header → OutsideRequest (in_packet inner) request i
-low_apart Nowhere request i h = tt
-low_apart (At o) none i h = tt
-low_apart (At o) (some r) i h = inl (omega arith)
+low_apart None request i h = tt
+low_apart (Some o) None i h = tt
+low_apart (Some o) (Some r) i h = inl (omega arith)
 
 -- ---- a request that is there
 
-asks_none : (x : Option Request) → asks x ≡ false → x ≡ none
-asks_none none a = refl
-asks_none (some r) a = absurd (clash (cc))
+asks_none : (x : Option Request) → asks x ≡ false → x ≡ None
+asks_none None a = refl
+asks_none (Some r) a = absurd (clash (cc))
 
-asks_some : (x : Option Request) → asks x ≡ true → (old : Request) × (x ≡ some old)
-asks_some none a = absurd (clash (cc))
-asks_some (some old) a = (old, refl)
+asks_some : (x : Option Request) → asks x ≡ true → (old : Request) × (x ≡ Some old)
+asks_some None a = absurd (clash (cc))
+asks_some (Some old) a = (old, refl)
 
-pub is_read : (reply : Reply Request) (r : Request) → as_request reply ≡ some r → reply ≡ answer r
+pub is_read : (reply : Reply Request) (r : Request) → as_request reply ≡ Some r → reply ≡ answer r
 is_read (answer a) r e = ap (λ (q : Request). answer q) (cc)
 is_read (refuse n) r e = absurd (clash (cc))
 
 -- the request that stands at a place, put there again, changes nothing
 pub own_request : (place : ℕ) (packet : List ℕ) (request : Option Request) → Bytes packet → place + option_length ≤ length packet
-    → request_at (At place) packet ≡ request → put_request (At place) request packet ≡ packet
-own_request place packet none b h e = refl
-own_request place packet (some r) b h e =
+    → request_at (Some place) packet ≡ request → put_request (Some place) request packet ≡ packet
+own_request place packet None b h e = refl
+own_request place packet (Some r) b h e =
     let option = option_at place packet in
     let kept = request_round_trip.kept option r (bytes_part option_length place packet b) (is_read (request_read option) r e) in
     ap (λ (new : Reply (List ℕ)). sets packet place (leaves option new)) kept ∙ sets_own packet place option_length h
@@ -78,7 +76,7 @@ pub record Stored (place : Place) (packet : List ℕ) (ttl : ℕ) (request : Opt
   pub request_is : request_at place after ≡ request
   pub others : (i : ℕ) → (i ≡ ttl_place → ⊥) → OutsideRequest place request i → get_or after i 0 ≡ get_or packet i 0
   pub options : walk (options_of after) ≡ walk (options_of packet)
-  pub reserved : (o : ℕ) → place ≡ At o → reserved_in (option_at o after) ≡ reserved_in (option_at o packet)
+  pub reserved : (o : ℕ) → place ≡ Some o → reserved_in (option_at o after) ≡ reserved_in (option_at o packet)
 
 module _ (reach : ℕ) (packet : List ℕ) (b : Bytes packet) (g : Good reach packet) (ttl : ℕ) (small : ttl < 256) where
   abbrev aged : List ℕ
@@ -88,12 +86,12 @@ module _ (reach : ℕ) (packet : List ℕ) (b : Bytes packet) (g : Good reach pa
   option_aged place h = ap (take option_length) (drop-set-lt place packet ttl_place ttl (omega arith))
 
   pub request_aged : (inner : Place) → request_at (in_packet inner) aged ≡ request_at (in_packet inner) packet
-  request_aged Nowhere = refl
-  request_aged (At o) = ap (λ (l : List ℕ). as_request (request_read l)) (option_aged (options_place + o) (omega arith))
+  request_aged None = refl
+  request_aged (Some o) = ap (λ (l : List ℕ). as_request (request_read l)) (option_aged (options_place + o) (omega arith))
 
-  reserved_aged : (inner : Place) (o : ℕ) → in_packet inner ≡ At o → reserved_in (option_at o aged) ≡ reserved_in (option_at o packet)
-  reserved_aged Nowhere o e = absurd (clash (cc))
-  reserved_aged (At i) o e =
+  reserved_aged : (inner : Place) (o : ℕ) → in_packet inner ≡ Some o → reserved_in (option_at o aged) ≡ reserved_in (option_at o packet)
+  reserved_aged None o e = absurd (clash (cc))
+  reserved_aged (Some i) o e =
       let l : options_place + i ≡ o = cc in
       ap reserved_in (option_aged o (omega arith))
 
@@ -110,8 +108,8 @@ module _ (reach : ℕ) (packet : List ℕ) (b : Bytes packet) (g : Good reach pa
   }
 
   -- and a request over the one that is there
-  module _ (o : ℕ) (by_walk : walk (options_of packet) ≡ answer (At o)) (r : Request) (fits : RequestFits r)
-      (there : (old : Request) × (request_at (At (options_place + o)) packet ≡ some old)) where
+  module _ (o : ℕ) (by_walk : walk (options_of packet) ≡ answer (Some o)) (r : Request) (fits : RequestFits r)
+      (there : (old : Request) × (request_at (Some (options_place + o)) packet ≡ Some old)) where
     abbrev place : ℕ
     place = options_place + o
 
@@ -134,7 +132,7 @@ module _ (reach : ℕ) (packet : List ℕ) (b : Bytes packet) (g : Good reach pa
         let a = request_round_trip.rewriting_accepted option there.0 r.rate r.qs_ttl r.nonce e fits.rate_fits fits.nonce_fits in
         a.1 ∙ ap (λ (l : List ℕ). answer l) (changed_option option a.0 r.rate r.qs_ttl r.nonce a.1).1
 
-    after_put : put_request (At place) (some r) aged ≡ sets aged place eight
+    after_put : put_request (Some place) (Some r) aged ≡ sets aged place eight
     after_put =
         ap (λ (l : List ℕ). sets aged place (leaves l (request_rewritten l r.rate r.qs_ttl r.nonce))) (option_aged place at.behind)
         ∙ ap (λ (new : Reply (List ℕ)). sets aged place (leaves option new)) rewriting
@@ -189,7 +187,7 @@ module _ (reach : ℕ) (packet : List ℕ) (b : Bytes packet) (g : Good reach pa
         ∙ options_set packet ttl_place ttl (omega arith) (omega arith) g.header) in
         ap walk area ∙ walking_theorem.steady (options_of packet) six o refl by_walk ∙ sym by_walk
 
-    request_stored : Stored (At place) packet ttl (some r) rewritten
+    request_stored : Stored (Some place) packet ttl (Some r) rewritten
     request_stored = record {
       long = length-sets aged place eight ∙ length-set packet ttl_place ttl;
       bytes = bytes_sets aged place eight (six_bytes r reserved_bits fits (omega arith)) (bytes_set packet ttl_place ttl small b);
@@ -205,9 +203,9 @@ module _ (reach : ℕ) (packet : List ℕ) (b : Bytes packet) (g : Good reach pa
 
   pub stored : (inner : Place) (request : Option Request) → walk (options_of packet) ≡ answer inner → FitsWhere request → asks (request_at (in_packet inner) packet) ≡ asks request
       → Stored (in_packet inner) packet ttl request (put_request (in_packet inner) request aged)
-  stored Nowhere none e f a = aged_stored Nowhere none refl
-  stored Nowhere (some r) e f a = absurd (clash (cc))
-  stored (At o) none e f a = aged_stored (At o) none (asks_none (request_at (At (options_place + o)) packet) a)
-  stored (At o) (some r) e f a =
-      let there = asks_some (request_at (At (options_place + o)) packet) a in
-      subst (λ (l : List ℕ). Stored (At (options_place + o)) packet ttl (some r) l) (sym (after_put o e r f there)) (request_stored o e r f there)
+  stored None None e f a = aged_stored None None refl
+  stored None (Some r) e f a = absurd (clash (cc))
+  stored (Some o) None e f a = aged_stored (Some o) None (asks_none (request_at (Some (options_place + o)) packet) a)
+  stored (Some o) (Some r) e f a =
+      let there = asks_some (request_at (Some (options_place + o)) packet) a in
+      subst (λ (l : List ℕ). Stored (Some (options_place + o)) packet ttl (Some r) l) (sym (after_put o e r f there)) (request_stored o e r f there)

@@ -3,7 +3,7 @@ use Prim.Native.Nat.{ℕ, ◌+◌, ◌-◌, ◌≤◌, ◌<◌}
 use mathlib.Core.Bool.{Bool, true, false}
 use mathlib.Core.List.{List}
 use mathlib.Core.Logic.{inl, inr}
-use mathlib.Core.Option.{Option, none, some}
+use Rattle.std.specs.Prelude.{Option, None, Some}
 use mathlib.Core.Path.{◌≡◌, refl, sym, ap, ap₂, subst, ◌∙◌}
 use native.Mathlib.Omega.{arith}
 use lib.Dec.{leb, eqb}
@@ -17,14 +17,14 @@ use Rattle.refusals.proofs.ReplyLaws.{through}
 use Rattle.wire_rules.specs.declared.Request.{Request}
 use Rattle.wire_rules.specs.Options.Wire.{option_length, option_bytes, fields_fit}
 use Rattle.wire_rules.specs.Options.Requests.{is_request, request_read, request_rewritten}
-use Rattle.wire_rules.specs.declared.Place.{Place}
-use Rattle.wire_rules.specs.declared.Place.TheVariants.{Nowhere, At}
-use Rattle.wire_rules.specs.Walk.Walks.{walk}
+use Rattle.wire_rules.specs.Walk.Walks.{walk, Place}
 use Rattle.wire_rules.specs.Ipv4.Headers.{least_header, options_place, ecn_place, ttl_place, ip_ttl, header_length, header_of}
 use Rattle.wire_rules.specs.Ipv4.Checksums.{all_ones, ones_sum, sealed}
 use Rattle.wire_rules.specs.Ipv4.Checks.{well_formed, header_checked}
 use Rattle.wire_rules.specs.Ipv4.Packets.{in_packet, walked, located, passed_on, forwarded}
-use Rattle.wire_rules.specs.Ipv4.Marks.{Mark, marked, dropped, ect_set, with_ce, mark_reply, after_mark, marked_packet}
+use Rattle.wire_rules.specs.Ipv4.Marks.{ect_set, with_ce, mark_reply, after_mark, marked_packet}
+use Rattle.wire_rules.specs.declared.Marking.{Marking}
+use Rattle.wire_rules.specs.declared.Marking.TheVariants.{Marked, Dropped}
 use Rattle.wire_rules.specs.Ipv4.Views.{View, option_at, as_request, request_at, view, put_request, put}
 use Rattle.wire_rules.specs.Ipv4.Claims.{HeaderForm, SameHeader, KeptBehind, LeftAlike, Alike, BehindHeader}
 use Rattle.wire_rules.proofs.Ipv4.ChecksumLaws.{length_sealed}
@@ -84,7 +84,7 @@ module _ (p q : List ℕ) (s : SameHeader p q) where
         ∙ sym (checked_of reach p w)
 
     -- the request of an option that lies in the header
-    requests : (place : ℕ) → place + option_length ≤ header_length p → request_at (At place) q ≡ request_at (At place) p
+    requests : (place : ℕ) → place + option_length ≤ header_length p → request_at (Some place) q ≡ request_at (Some place) p
     requests place room =
         ap (λ (l : List ℕ). as_request (request_read l))
         (sym (option_header place (header_length q) q (rw size_alike room)) ∙ ap (option_at place) s.header ∙ option_header place (header_length p) p room)
@@ -112,8 +112,8 @@ module _ (p q : List ℕ) (s : SameHeader p q) where
       seen l r = and_then r (λ place. answer (record { ttl = ip_ttl l; request = request_at place l }))
 
       shown : (place : Place) → located reach p ≡ answer place → request_at place q ≡ request_at place p
-      shown Nowhere e = refl
-      shown (At place) e = requests reach (found reach p (At place) e).is_good.well place (at_place reach place p e).room
+      shown None e = refl
+      shown (Some place) e = requests reach (found reach p (Some place) e).is_good.well place (at_place reach place p e).room
 
       by_place : (r : Reply Place) → located reach p ≡ r → view reach q ≡ view reach p
       by_place (refuse n) e = ap (seen q) (locates reach ∙ e) ∙ sym (ap (seen p) e)
@@ -171,12 +171,12 @@ module _ (reach : ℕ) (p q : List ℕ) (s : SameHeader p q) (w : well_formed re
 
 -- an option behind the first twenty bytes that lies in the header
 abbrev Room : Place → ℕ → Type 0
-Room Nowhere h = Unit {0}
-Room (At o) h = (least_header ≤ o) × (o + option_length ≤ h)
+Room None h = Unit {0}
+Room (Some o) h = (least_header ≤ o) × (o + option_length ≤ h)
 
 room_of : (reach : ℕ) (p : List ℕ) (place : Place) → located reach p ≡ answer place → Room place (header_length p)
-room_of reach p Nowhere e = tt
-room_of reach p (At o) e = let f = at_place reach o p e in (f.behind, f.room)
+room_of reach p None e = tt
+room_of reach p (Some o) e = let f = at_place reach o p e in (f.behind, f.room)
 
 -- the eight bytes that are stored over an option
 module _ (r : Request) where
@@ -195,26 +195,26 @@ module _ (h : ℕ) (l : List ℕ) (inside : h ≤ length l) where
   eight_long o r room = length_eight r (option_at o l) (length-take-le option_length (drop o l) (rw (length-drop o l) (omega arith)))
 
   stored_header : (place : Place) (request : Option Request) → Room place h → take h (put_request place request l) ≡ put_request place request (take h l)
-  stored_header Nowhere request room = refl
-  stored_header (At o) none room = refl
-  stored_header (At o) (some r) room =
+  stored_header None request room = refl
+  stored_header (Some o) None room = refl
+  stored_header (Some o) (Some r) room =
       take-sets h l o (eight_of r (option_at o l)) (rw (eight_long o r room.1) room.1)
       ∙ ap (λ (option : List ℕ). sets (take h l) o (eight_of r option)) (sym (option_header o h l room.1))
 
   stored_low : (place : Place) (request : Option Request) → Room place h → (i : ℕ) → i < least_header → get_or (put_request place request l) i 0 ≡ get_or l i 0
-  stored_low Nowhere request room i low = refl
-  stored_low (At o) none room i low = refl
-  stored_low (At o) (some r) room i low = get_or-sets_other l o (eight_of r (option_at o l)) i (inl (omega (arith, room.0)))
+  stored_low None request room i low = refl
+  stored_low (Some o) None room i low = refl
+  stored_low (Some o) (Some r) room i low = get_or-sets_other l o (eight_of r (option_at o l)) i (inl (omega (arith, room.0)))
 
   stored_behind : (place : Place) (request : Option Request) → Room place h → (i : ℕ) → h ≤ i → get_or (put_request place request l) i 0 ≡ get_or l i 0
-  stored_behind Nowhere request room i high = refl
-  stored_behind (At o) none room i high = refl
-  stored_behind (At o) (some r) room i high = get_or-sets_other l o (eight_of r (option_at o l)) i (inr (rw (eight_long o r room.1) (omega (arith, room.1))))
+  stored_behind None request room i high = refl
+  stored_behind (Some o) None room i high = refl
+  stored_behind (Some o) (Some r) room i high = get_or-sets_other l o (eight_of r (option_at o l)) i (inr (rw (eight_long o r room.1) (omega (arith, room.1))))
 
 stored_long : (place : Place) (request : Option Request) (l : List ℕ) → length (put_request place request l) ≡ length l
-stored_long Nowhere request l = refl
-stored_long (At o) none l = refl
-stored_long (At o) (some r) l = length-sets l o (eight_of r (option_at o l))
+stored_long None request l = refl
+stored_long (Some o) None l = refl
+stored_long (Some o) (Some r) l = length-sets l o (eight_of r (option_at o l))
 
 -- put writes where the option is located
 put_where : (reach : ℕ) (p : List ℕ) (place : Place) (v : View) → located reach p ≡ answer place → put p v ≡ sealed (put_request place v.request (set p ttl_place v.ttl))
@@ -321,8 +321,8 @@ module _ (p q : List ℕ) (s : SameHeader p q) where
           by_answer (answer h) e = passes_on reach (good reach h p (sym e)).0.well
 
   -- marking, whose reach is the packet's own length
-  abbrev decided : List ℕ → Reply ℕ → Reply Mark
-  decided l checked = and_then checked (λ header. answer (pick (ect_set (get_or l ecn_place 0)) marked dropped))
+  abbrev decided : List ℕ → Reply ℕ → Reply Marking
+  decided l checked = and_then checked (λ header. answer (pick (ect_set (get_or l ecn_place 0)) Marked Dropped))
 
   mark_says : mark_reply q ≡ mark_reply p
   mark_says = ap (decided q) (ap (λ (n : ℕ). header_checked n q) s.long ∙ checks p q s (length p)) ∙ by_check (header_checked (length p) p) refl
@@ -330,20 +330,20 @@ module _ (p q : List ℕ) (s : SameHeader p q) where
       by_check : (r : Reply ℕ) → header_checked (length p) p ≡ r → decided q (header_checked (length p) p) ≡ decided p (header_checked (length p) p)
       by_check (refuse n) e = ap (decided q) e ∙ sym (ap (decided p) e)
       by_check (answer h) e =
-          ap (λ (b : ℕ). and_then (header_checked (length p) p) (λ header. answer (pick (ect_set b) marked dropped)))
+          ap (λ (b : ℕ). and_then (header_checked (length p) p) (λ header. answer (pick (ect_set b) Marked Dropped)))
           (at_first p q s (length p) (good (length p) h p (sym e)).0.well ecn_place (omega arith))
 
-  mark_leaves : (r : Reply Mark) → mark_reply p ≡ r → LeftAlike p q (after_mark p r) (after_mark q r)
-  mark_leaves (answer marked) e =
-      let c = through (header_checked (length p) p) _ marked e in
+  mark_leaves : (r : Reply Marking) → mark_reply p ≡ r → LeftAlike p q (after_mark p r) (after_mark q r)
+  mark_leaves (answer Marked) e =
+      let c = through (header_checked (length p) p) _ Marked e in
       let w = (good (length p) c.0 p (sym c.1)).0.well in
       rw (at_first p q s (length p) w ecn_place (omega arith))
       (set_alike (length p) p q s w ecn_place (with_ce (get_or p ecn_place 0)) (omega arith) (λ x. absurd (omega arith)) (λ x. absurd (omega arith)) (λ x. absurd (omega arith)))
-  mark_leaves (answer dropped) e = same_left p q s
+  mark_leaves (answer Dropped) e = same_left p q s
   mark_leaves (refuse n) e = same_left p q s
 
   pub marks : (mark_reply q ≡ mark_reply p) × LeftAlike p q (marked_packet p) (marked_packet q)
-  marks = (mark_says, subst (λ (r : Reply Mark). LeftAlike p q (marked_packet p) (after_mark q r)) (sym mark_says) (mark_leaves (mark_reply p) refl))
+  marks = (mark_says, subst (λ (r : Reply Marking). LeftAlike p q (marked_packet p) (after_mark q r)) (sym mark_says) (mark_leaves (mark_reply p) refl))
 
 pub behind_header : BehindHeader
 behind_header = record {

@@ -1,6 +1,6 @@
 -- Laws of the fifteen steps, once over the step: rates increase with the code, the two roundings follow their rules, and each rule leaves
 -- one code only. Assumes nothing.
-use Prim.Native.Nat.{ℕ, zero, suc, ◌+◌, ◌-◌, ◌*◌, ◌^◌, ◌≤◌, ◌<◌, min, zero-le}
+use Prim.Native.Nat.{ℕ, zero, suc, ◌+◌, ◌*◌, ◌^◌, ◌≤◌, ◌<◌, min, zero-le}
 use mathlib.Core.Logic.{◌⊎◌, inl, inr, ⊎_elim}
 use mathlib.Core.Path.{◌≡◌, refl, sym, subst, ◌∙◌}
 use native.Mathlib.Nat.{le_refl, le_trans, le_antisymm, lt_irrefl, lt_of_lt_of_le, le_of_lt, not-le_of_lt, eq-or-lt_of_le, mul-lt-mul_of_pos_left, min-le_left, min-le_right}

@@ -12,9 +12,8 @@ use Rattle.common.proofs.Choice.{clash, in_within}
 use Rattle.refusals.specs.Reply.{Reply, answer, refuse}
 use Rattle.wire_rules.specs.Options.Wire.{option_length, kind_in, length_in}
 use Rattle.wire_rules.specs.Options.Requests.{request_kind}
-use Rattle.wire_rules.specs.declared.Place.{Place}
-use Rattle.wire_rules.specs.declared.Place.TheVariants.{Nowhere, At}
-use Rattle.wire_rules.specs.Walk.Walks.{Next, end, fault, past, end_kind, no_operation, length_fits, look, go_on, walk_on}
+use Rattle.std.specs.Prelude.{None, Some}
+use Rattle.wire_rules.specs.Walk.Walks.{Next, end, fault, past, end_kind, no_operation, length_fits, look, go_on, walk_on, Place}
 use Rattle.wire_rules.specs.Walk.Claims.{Other, Skipped, none, filler, other, Ended, last, Clear, quick_start_option, Holds}
 use Rattle.wire_rules.specs.Walk.Claims as claims
 use Rattle.wire_rules.proofs.Walk.WalkLaws.{reads_first, reads_other, looks, fits_low, fits_high, step, goes_past}
@@ -65,30 +64,30 @@ clear_yields place offset area c =
     ∙ ended place (offset + length c.skipped) c.rest c.ends
 
 -- a Quick-Start option that is the first
-pub found : (offset : ℕ) (six rest : List ℕ) → length six ≡ 6 → walk_on Nowhere offset 0 (quick_start_option six ++ rest) ≡ walk_on (At offset) (offset + option_length) 0 rest
+pub found : (offset : ℕ) (six rest : List ℕ) → length six ≡ 6 → walk_on None offset 0 (quick_start_option six ++ rest) ≡ walk_on (Some offset) (offset + option_length) 0 rest
 unfolding length_fits
 found offset six rest e =
-    goes_past Nowhere (At offset) offset option_length (quick_start_option six ++ rest) (omega arith) read
-    ∙ ap (λ (l : List ℕ). walk_on (At offset) (offset + option_length) 0 l) (drop_at six rest 6 e)
+    goes_past None (Some offset) offset option_length (quick_start_option six ++ rest) (omega arith) read
+    ∙ ap (λ (l : List ℕ). walk_on (Some offset) (offset + option_length) 0 l) (drop_at six rest 6 e)
   where
     fits : length_fits (quick_start_option six ++ rest) ≡ true
     fits = in_within 2 option_length (length (quick_start_option six ++ rest)) (omega arith) (rw (length-append six rest) (omega arith))
 
-    read : look Nowhere offset (quick_start_option six ++ rest) ≡ past (At offset) option_length
-    read = reads_first Nowhere offset (quick_start_option six ++ rest) refl refl fits refl
+    read : look None offset (quick_start_option six ++ rest) ≡ past (Some offset) option_length
+    read = reads_first None offset (quick_start_option six ++ rest) refl refl fits refl
 
 -- ---- whatever the walk yields, the area is made so
 
 -- bytes in which the walk meets a fault: before it finds an option, or behind the first
 pub data Breaks (place : Place) (n : ℕ) (bytes : List ℕ) : Type 0 where
   at_once : (before left : List ℕ) (o : ℕ) → Skipped before → bytes ≡ before ++ left → look place o left ≡ fault n → Breaks place n bytes
-  behind : (before six between left : List ℕ) (p o : ℕ) → place ≡ Nowhere → Skipped before → length six ≡ 6 → Skipped between
-      → bytes ≡ before ++ (quick_start_option six ++ (between ++ left)) → look (At p) o left ≡ fault n → Breaks place n bytes
+  behind : (before six between left : List ℕ) (p o : ℕ) → place ≡ None → Skipped before → length six ≡ 6 → Skipped between
+      → bytes ≡ before ++ (quick_start_option six ++ (between ++ left)) → look (Some p) o left ≡ fault n → Breaks place n bytes
 
 -- what the walk yields from an offset on: nothing more, the first option, or a fault
 pub data Yields (place : Place) (offset : ℕ) (bytes : List ℕ) (r : Reply Place) : Type 0 where
   clear : answer place ≡ r → Clear bytes → Yields place offset bytes r
-  holds : (o : ℕ) → place ≡ Nowhere → answer (At (offset + o)) ≡ r → Holds o bytes → Yields place offset bytes r
+  holds : (o : ℕ) → place ≡ None → answer (Some (offset + o)) ≡ r → Holds o bytes → Yields place offset bytes r
   breaks : (n : ℕ) → refuse n ≡ r → Breaks place n bytes → Yields place offset bytes r
 
 -- with more of what is skipped in front of it
@@ -105,7 +104,7 @@ module _ (p : List ℕ) (more : (s : List ℕ) → Skipped s → Skipped (p ++ s
   extend place offset rest r (clear e c) =
       clear e (record { skipped = p ++ c.skipped; rest = c.rest; whole = further_back rest c.skipped c.rest c.whole; skips = more c.skipped c.skips; ends = c.ends })
   extend place offset rest r (holds o n e h) =
-      holds (length p + o) n (ap (λ (k : ℕ). answer (At k)) {x = offset + (length p + o)} {y = offset + length p + o} (omega arith) ∙ e) (record {
+      holds (length p + o) n (ap (λ (k : ℕ). answer (Some k)) {x = offset + (length p + o)} {y = offset + length p + o} (omega arith) ∙ e) (record {
         before = p ++ h.before;
         six = h.six;
         rest = h.rest;
@@ -156,16 +155,16 @@ option_front bytes k l f =
     )
 
 -- a Quick-Start option at the front, with what follows it
-module _ (place : Place) (offset : ℕ) (bytes : List ℕ) (r : Reply Place) (n : place ≡ Nowhere)
+module _ (place : Place) (offset : ℕ) (bytes : List ℕ) (r : Reply Place) (n : place ≡ None)
     (front : (six : List ℕ) × (length six ≡ 6) × (bytes ≡ quick_start_option six ++ drop option_length bytes)) where
-  here_breaks : (k i : ℕ) → Breaks (At i) k (drop option_length bytes) → Breaks place k bytes
+  here_breaks : (k i : ℕ) → Breaks (Some i) k (drop option_length bytes) → Breaks place k bytes
   here_breaks k i (at_once before left o s w l) =
       behind [] front.0 before left i o n none front.1 s (front.2 ∙ ap (λ (t : List ℕ). quick_start_option front.0 ++ t) w) l
   here_breaks k i (behind before six between left p o x s f t w l) = absurd (clash (cc))
 
-  here : Yields (At offset) (offset + option_length) (drop option_length bytes) r → Yields place offset bytes r
+  here : Yields (Some offset) (offset + option_length) (drop option_length bytes) r → Yields place offset bytes r
   here (clear e c) =
-      holds 0 n (ap (λ (i : ℕ). answer (At i)) (add-zero offset) ∙ e) (record {
+      holds 0 n (ap (λ (i : ℕ). answer (Some i)) (add-zero offset) ∙ e) (record {
         before = [];
         six = front.0;
         rest = drop option_length bytes;
@@ -203,7 +202,7 @@ module _ (place : Place) (offset : ℕ) (bytes : List ℕ) (r : Reply Place) (h 
       (λ k f o. at_fault 5)
       (λ n k len f l.
       here place offset bytes r n (option_front bytes k len f)
-      (subst (λ (i : ℕ). Yields (At offset) (offset + i) (drop i bytes) r) len (further (At offset) (length_in bytes) (omega (arith, fits_low bytes f)) l)))
+      (subst (λ (i : ℕ). Yields (Some offset) (offset + i) (drop i bytes) r) len (further (Some offset) (length_in bytes) (omega (arith, fits_low bytes f)) l)))
       (λ a b d f l. in_front (length_in bytes) (fits_high bytes f) (λ s. other (take (length_in bytes) bytes) s (front bytes a b d f))
       (further place (length_in bytes) (omega (arith, fits_low bytes f)) l))
       refl

@@ -12,39 +12,38 @@ use Rattle.common.proofs.Lists.{sets_between}
 use Rattle.refusals.specs.Reply.{Reply, answer, refuse}
 use Rattle.wire_rules.specs.Options.Wire.{option_length, kind_in, length_in}
 use Rattle.wire_rules.specs.Options.Requests.{request_kind}
-use Rattle.wire_rules.specs.declared.Place.{Place}
-use Rattle.wire_rules.specs.declared.Place.TheVariants.{Nowhere, At}
-use Rattle.wire_rules.specs.Walk.Walks.{Next, fault, look, go_on, walk_on, walk}
+use Rattle.std.specs.Prelude.{None, Some}
+use Rattle.wire_rules.specs.Walk.Walks.{Next, fault, look, go_on, walk_on, walk, Place}
 use Rattle.wire_rules.specs.Walk.Claims.{Skipped, none, filler, last, Clear, quick_start_option, Holds, Passed, no_option, one_option, Faulty, bad_length, other_length, second, WalkingTheorem, WalkingOnly, ShutOut}
 use Rattle.wire_rules.proofs.Walk.WalkLaws.{reads_bad, reads_wrong, reads_second, looks, step, fits_low, fits_high, no_fit, in_fit, fit_fails}
 use Rattle.wire_rules.proofs.Walk.AreaLaws.{skip, clear_yields, found, at_once, behind, Yields, clear, holds, breaks, yields}
 
 -- ---- what is found
 
-all_yields : (area : List ℕ) (r : Reply Place) → walk area ≡ r → Yields Nowhere 0 area r
-all_yields area r e = yields (length area) Nowhere 0 area r (le_refl (length area)) e
+all_yields : (area : List ℕ) (r : Reply Place) → walk area ≡ r → Yields None 0 area r
+all_yields area r e = yields (length area) None 0 area r (le_refl (length area)) e
 
-holds_sound : (area : List ℕ) (offset : ℕ) → Yields Nowhere 0 area (answer (At offset)) → Holds offset area
+holds_sound : (area : List ℕ) (offset : ℕ) → Yields None 0 area (answer (Some offset)) → Holds offset area
 holds_sound area offset (clear e c) = absurd (clash (cc))
 holds_sound area offset (holds o n e h) = let i : 0 + o ≡ offset = cc in subst (λ (k : ℕ). Holds k area) {x = o} {y = offset} (omega arith) h
 holds_sound area offset (breaks n e b) = absurd (clash (cc))
 
-clear_sound : (area : List ℕ) → Yields Nowhere 0 area (answer Nowhere) → Clear area
+clear_sound : (area : List ℕ) → Yields None 0 area (answer None) → Clear area
 clear_sound area (clear e c) = c
 clear_sound area (holds o n e h) = absurd (clash (cc))
 clear_sound area (breaks n e b) = absurd (clash (cc))
 
-sound : (area : List ℕ) (offset : ℕ) → walk area ≡ answer (At offset) → Holds offset area
-sound area offset e = holds_sound area offset (all_yields area (answer (At offset)) e)
+sound : (area : List ℕ) (offset : ℕ) → walk area ≡ answer (Some offset) → Holds offset area
+sound area offset e = holds_sound area offset (all_yields area (answer (Some offset)) e)
 
-complete : (area : List ℕ) (offset : ℕ) → Holds offset area → walk area ≡ answer (At offset)
+complete : (area : List ℕ) (offset : ℕ) → Holds offset area → walk area ≡ answer (Some offset)
 complete area offset h =
     let o = 0 + length h.before in
     ap walk h.whole
-    ∙ skip Nowhere 0 h.before (quick_start_option h.six ++ h.rest) h.skips
+    ∙ skip None 0 h.before (quick_start_option h.six ++ h.rest) h.skips
     ∙ found o h.six h.rest h.full
-    ∙ clear_yields (At o) (o + option_length) h.rest h.clear
-    ∙ ap (λ (k : ℕ). answer (At k)) (zero-add (length h.before) ∙ h.place)
+    ∙ clear_yields (Some o) (o + option_length) h.rest h.clear
+    ∙ ap (λ (k : ℕ). answer (Some k)) (zero-add (length h.before) ∙ h.place)
 
 room : (area : List ℕ) (offset : ℕ) → Holds offset area → (offset + option_length ≤ length area) × (get_or area offset 0 ≡ request_kind) × (get_or area (suc offset) 0 ≡ option_length)
 room area offset h =
@@ -74,14 +73,14 @@ rewritten area six offset e h =
 
 -- the walk comes through what it has passed over, with what it found there
 through_one : (before six between option : List ℕ) → Skipped before → length six ≡ 6 → Skipped between
-    → (o k : ℕ) × (walk (before ++ (quick_start_option six ++ (between ++ option))) ≡ walk_on (At o) k 0 option)
+    → (o k : ℕ) × (walk (before ++ (quick_start_option six ++ (between ++ option))) ≡ walk_on (Some o) k 0 option)
 through_one before six between option s e t =
     let o = 0 + length before in (
       o,
       o + option_length + length between,
-      skip Nowhere 0 before (quick_start_option six ++ (between ++ option)) s
+      skip None 0 before (quick_start_option six ++ (between ++ option)) s
           ∙ found o six (between ++ option) e
-          ∙ skip (At o) (o + option_length) between option t,
+          ∙ skip (Some o) (o + option_length) between option t,
     )
 
 joined : (before six between left : List ℕ) → (before ++ (quick_start_option six ++ between)) ++ left ≡ before ++ (quick_start_option six ++ (between ++ left))
@@ -89,10 +88,10 @@ joined before six between left =
     append_assoc before (quick_start_option six ++ between) left ∙ ap (λ (l : List ℕ). before ++ l) (append_assoc (quick_start_option six) between left)
 
 through : (before option : List ℕ) → Passed before → (place : Place) × (k : ℕ) × (walk (before ++ option) ≡ walk_on place k 0 option)
-through _ option (no_option before s) = (Nowhere, 0 + length before, skip Nowhere 0 before option s)
+through _ option (no_option before s) = (None, 0 + length before, skip None 0 before option s)
 through _ option (one_option before six between s e t) =
     let w = through_one before six between option s e t in (
-      At w.0,
+      Some w.0,
       w.1,
       ap walk (append_assoc before (quick_start_option six ++ between) option ∙ ap (λ (l : List ℕ). before ++ l) (append_assoc (quick_start_option six) between option)) ∙ w.2,
     )
@@ -115,14 +114,14 @@ fault_complete _ _ (other_length before left p k l h n) =
     w.2 ∙ stopped w.0 w.1 5 left (omega arith) (reads_wrong w.0 w.1 left k (in_fit left l h) n)
 fault_complete _ _ (second before six between left s e t k l h) =
     let w = through_one before six between left s e t in
-    w.2 ∙ stopped (At w.0) w.1 5 left (omega arith) (reads_second (At w.0) w.1 left w.0 refl k (in_fit left l h))
+    w.2 ∙ stopped (Some w.0) w.1 5 left (omega arith) (reads_second (Some w.0) w.1 left w.0 refl k (in_fit left l h))
 
 -- what a fault says of the bytes that it was met in
 abbrev Bad : ℕ → List ℕ → Type 0
 Bad n left = (n ≡ 3) × (kind_in left ≡ 0 → ⊥) × (kind_in left ≡ 1 → ⊥) × ((length_in left < 2) ⊎ (length left < length_in left))
 
 abbrev Wrong : Place → ℕ → List ℕ → Type 0
-Wrong place n left = (n ≡ 5) × (kind_in left ≡ 25) × (2 ≤ length_in left) × (length_in left ≤ length left) × ((length_in left ≡ 8 → ⊥) ⊎ ((i : ℕ) × (place ≡ At i)))
+Wrong place n left = (n ≡ 5) × (kind_in left ≡ 25) × (2 ≤ length_in left) × (length_in left ≤ length left) × ((length_in left ≡ 8 → ⊥) ⊎ ((i : ℕ) × (place ≡ Some i)))
 
 says : (place : Place) (o n : ℕ) (left : List ℕ) → look place o left ≡ fault n → Bad n left ⊎ Wrong place n left
 says place o n left =
@@ -134,13 +133,13 @@ says place o n left =
     (λ p k l f e. absurd (clash (cc)))
     (λ a b d f e. absurd (clash (cc)))
 
-faulty_at : (n : ℕ) (before left : List ℕ) → Skipped before → Bad n left ⊎ Wrong Nowhere n left → Faulty n (before ++ left)
+faulty_at : (n : ℕ) (before left : List ℕ) → Skipped before → Bad n left ⊎ Wrong None n left → Faulty n (before ++ left)
 faulty_at n before left s (inl b) = subst (λ (k : ℕ). Faulty k (before ++ left)) (sym b.0) (bad_length before left (no_option before s) b.1 b.2 b.3)
 faulty_at n before left s (inr (five, k, l, h, inl w)) =
     subst (λ (k : ℕ). Faulty k (before ++ left)) (sym five) (other_length before left (no_option before s) k l h w)
 faulty_at n before left s (inr (five, k, l, h, inr w)) = let e = w.1 in absurd (clash (cc))
 
-faulty_behind : (n p : ℕ) (before six between left : List ℕ) → Skipped before → length six ≡ 6 → Skipped between → Bad n left ⊎ Wrong (At p) n left
+faulty_behind : (n p : ℕ) (before six between left : List ℕ) → Skipped before → length six ≡ 6 → Skipped between → Bad n left ⊎ Wrong (Some p) n left
     → Faulty n (before ++ (quick_start_option six ++ (between ++ left)))
 faulty_behind n p before six between left s f t (inl b) =
     subst (λ (l : List ℕ). Faulty n l) (joined before six between left)
@@ -149,24 +148,24 @@ faulty_behind n p before six between left s f t (inl b) =
 faulty_behind n p before six between left s f t (inr w) =
     subst (λ (k : ℕ). Faulty k (before ++ (quick_start_option six ++ (between ++ left)))) (sym w.0) (second before six between left s f t w.1 w.2 w.3)
 
-fault_sound : (area : List ℕ) (n : ℕ) → Yields Nowhere 0 area (refuse n) → Faulty n area
+fault_sound : (area : List ℕ) (n : ℕ) → Yields None 0 area (refuse n) → Faulty n area
 fault_sound area n (clear e c) = absurd (clash (cc))
 fault_sound area n (holds o m e h) = absurd (clash (cc))
 fault_sound area n (breaks m e (at_once before left o s w l)) =
     let same : m ≡ n = cc in
-    subst (λ (k : ℕ). Faulty k area) same (subst (λ (x : List ℕ). Faulty m x) (sym w) (faulty_at m before left s (says Nowhere o m left l)))
+    subst (λ (k : ℕ). Faulty k area) same (subst (λ (x : List ℕ). Faulty m x) (sym w) (faulty_at m before left s (says None o m left l)))
 fault_sound area n (breaks m e (behind before six between left p o x s f t w l)) =
     let same : m ≡ n = cc in
     subst (λ (k : ℕ). Faulty k area) same
-    (subst (λ (y : List ℕ). Faulty m y) (sym w) (faulty_behind m p before six between left s f t (says (At p) o m left l)))
+    (subst (λ (y : List ℕ). Faulty m y) (sym w) (faulty_behind m p before six between left s f t (says (Some p) o m left l)))
 
 pub walking_theorem : WalkingTheorem
 walking_theorem = record {
   sound = sound;
   complete = complete;
   room = λ area offset e. room area offset (sound area offset e);
-  none_sound = λ area e. clear_sound area (all_yields area (answer Nowhere) e);
-  none_complete = λ area c. clear_yields Nowhere 0 area c;
+  none_sound = λ area e. clear_sound area (all_yields area (answer None) e);
+  none_complete = λ area c. clear_yields None 0 area c;
   fault_sound = λ area n e. fault_sound area n (all_yields area (refuse n) e);
   fault_complete = fault_complete;
   steady = λ area six offset e w.
@@ -188,8 +187,8 @@ pub walking_only : WalkingOnly
 walking_only other w area = by_ours (walk area) refl
   where
     by_place : (place : Place) → walk area ≡ answer place → other area ≡ answer place
-    by_place Nowhere e = w.none_complete area (walking_theorem.none_sound area e)
-    by_place (At offset) e = w.complete area offset (walking_theorem.sound area offset e)
+    by_place None e = w.none_complete area (walking_theorem.none_sound area e)
+    by_place (Some offset) e = w.complete area offset (walking_theorem.sound area offset e)
 
     by_ours : (r : Reply Place) → walk area ≡ r → other area ≡ walk area
     by_ours (answer place) e = by_place place e ∙ sym e
@@ -218,9 +217,9 @@ pub shut_out : ShutOut
 unfolding six_zeros look
 shut_out = record {
   none_always_lem = λ w.
-      let e : answer Nowhere ≡ answer (At 0) = w.complete _ 0 (behind_fillers [] none) in
+      let e : answer None ≡ answer (Some 0) = w.complete _ 0 (behind_fillers [] none) in
       clash (cc);
   first_only_lem = λ w.
-      let e : answer Nowhere ≡ answer (At 1) = w.complete _ 1 (behind_fillers (1 ∷ []) (filler [] none)) in
+      let e : answer None ≡ answer (Some 1) = w.complete _ 1 (behind_fillers (1 ∷ []) (filler [] none)) in
       clash (cc);
 }

@@ -14,9 +14,8 @@ use lib.Seq.{drop-drop}
 use Rattle.common.proofs.Choice.{clash, le_or_gt, within_low, within_high, in_within}
 use Rattle.wire_rules.specs.Options.Wire.{option_length, kind_in, length_in}
 use Rattle.wire_rules.specs.Options.Requests.{request_kind}
-use Rattle.wire_rules.specs.declared.Place.{Place}
-use Rattle.wire_rules.specs.declared.Place.TheVariants.{Nowhere, At}
-use Rattle.wire_rules.specs.Walk.Walks.{Next, end, fault, past, end_kind, no_operation, length_fits, look, go_on, walk_on}
+use Rattle.std.specs.Prelude.{None, Some}
+use Rattle.wire_rules.specs.Walk.Walks.{Next, end, fault, past, end_kind, no_operation, length_fits, look, go_on, walk_on, Place}
 
 -- ---- what the walk makes of an option, by its type and its length
 
@@ -38,11 +37,11 @@ module _ (place : Place) (offset : ℕ) (left : List ℕ) where
   unfolding look
   reads_other a b c f = simp (ne_eqb _ _ a, ne_eqb _ _ b, ne_eqb _ _ c, f)
 
-  pub reads_first : place ≡ Nowhere → kind_in left ≡ request_kind → length_fits left ≡ true → length_in left ≡ option_length → look place offset left ≡ past (At offset) (length_in left)
+  pub reads_first : place ≡ None → kind_in left ≡ request_kind → length_fits left ≡ true → length_in left ≡ option_length → look place offset left ≡ past (Some offset) (length_in left)
   unfolding look
   reads_first p k f l = simp (p, k, f, l)
 
-  pub reads_second : (i : ℕ) → place ≡ At i → kind_in left ≡ request_kind → length_fits left ≡ true → look place offset left ≡ fault 5
+  pub reads_second : (i : ℕ) → place ≡ Some i → kind_in left ≡ request_kind → length_fits left ≡ true → look place offset left ≡ fault 5
   unfolding look
   reads_second i p k f = simp (p, k, f)
 
@@ -50,16 +49,16 @@ module _ (place : Place) (offset : ℕ) (left : List ℕ) where
 pub reads_wrong : (place : Place) (offset : ℕ) (left : List ℕ) → kind_in left ≡ request_kind → length_fits left ≡ true → (length_in left ≡ option_length → ⊥)
     → look place offset left ≡ fault 5
 unfolding look
-reads_wrong Nowhere offset left k f n = simp (k, f, ne_eqb (length_in left) option_length n)
-reads_wrong (At i) offset left k f n = simp (k, f)
+reads_wrong None offset left k f n = simp (k, f, ne_eqb (length_in left) option_length n)
+reads_wrong (Some i) offset left k f n = simp (k, f)
 
 -- what is proved of every way that an option can be read holds of its reading
 pub looks : (P : Next → Type 0) (place : Place) (offset : ℕ) (left : List ℕ)
     → (kind_in left ≡ end_kind → P end)
     → (kind_in left ≡ no_operation → P (past place 1))
     → ((kind_in left ≡ end_kind → ⊥) → (kind_in left ≡ no_operation → ⊥) → length_fits left ≡ false → P (fault 3))
-    → (kind_in left ≡ request_kind → length_fits left ≡ true → (length_in left ≡ option_length → ⊥) ⊎ ((i : ℕ) × (place ≡ At i)) → P (fault 5))
-    → (place ≡ Nowhere → kind_in left ≡ request_kind → length_in left ≡ option_length → length_fits left ≡ true → P (past (At offset) (length_in left)))
+    → (kind_in left ≡ request_kind → length_fits left ≡ true → (length_in left ≡ option_length → ⊥) ⊎ ((i : ℕ) × (place ≡ Some i)) → P (fault 5))
+    → (place ≡ None → kind_in left ≡ request_kind → length_in left ≡ option_length → length_fits left ≡ true → P (past (Some offset) (length_in left)))
     → ((kind_in left ≡ end_kind → ⊥) → (kind_in left ≡ no_operation → ⊥) → (kind_in left ≡ request_kind → ⊥) → length_fits left ≡ true → P (past place (length_in left)))
     → P (look place offset left)
 looks P place offset left e n f q s o = by_kind (eqb kind end_kind) (eqb kind no_operation) (eqb kind request_kind) refl refl refl
@@ -71,11 +70,11 @@ looks P place offset left e n f q s o = by_kind (eqb kind end_kind) (eqb kind no
     reads x l p = subst P (sym l) p
 
     by_place : (before : Place) → place ≡ before → kind_in left ≡ request_kind → length_fits left ≡ true → (t : Bool) → eqb (length_in left) option_length ≡ t → P (look place offset left)
-    by_place (At i) p k fits t x = reads (fault 5) (reads_second place offset left i p k fits) (q k fits (inr (i, p)))
-    by_place Nowhere p k fits true x =
+    by_place (Some i) p k fits t x = reads (fault 5) (reads_second place offset left i p k fits) (q k fits (inr (i, p)))
+    by_place None p k fits true x =
         let l = eqb-true (length_in left) option_length x in
-        reads (past (At offset) (length_in left)) (reads_first place offset left p k fits l) (s p k l fits)
-    by_place Nowhere p k fits false x =
+        reads (past (Some offset) (length_in left)) (reads_first place offset left p k fits l) (s p k l fits)
+    by_place None p k fits false x =
         let l = eqb-false (length_in left) option_length x in
         reads (fault 5) (reads_wrong place offset left k fits l) (q k fits (inl l))
 

@@ -2,20 +2,21 @@
 -- the definitions that the contracts cite; places in a packet are RFC 791's numbers: 1 is the second byte, 8 IP TTL, 10 and 11 the
 -- checksum, 20 the first byte of the options. Assumes nothing.
 use Rattle.std.specs.Prelude.{ℕ, suc, ◌+◌, ◌-◌, ◌*◌, ◌/◌, ◌%◌, ◌≤◌, ◌<◌, Bool, true, false, ◌&&◌, List, [], ◌∷◌, ◌⊎◌, ◌≡◌, leb, length, get_or, set}
-use Rattle.std.proofs.Math.Option.{Option, none, some}
+use Rattle.std.specs.Prelude.{Option, None, Some}
+use Rattle.wire_rules.specs.Walk.Walks.{Place}
 use Rattle.common.specs.Lists.{Bytes}
 use Rattle.refusals.specs.Reply.{Reply, answer, refuse, leaves, done}
 use Rattle.wire_rules.specs.Rates.Steps.{top_code}
 use Rattle.wire_rules.specs.declared.Request.{Request}
 use Rattle.wire_rules.specs.Options.Wire.{nonce_limit, reserved_in}
-use Rattle.wire_rules.specs.declared.Place.{Place}
-use Rattle.wire_rules.specs.declared.Place.TheVariants.{Nowhere, At}
 use Rattle.wire_rules.specs.Walk.Claims.{Holds, Clear, Faulty}
 use Rattle.wire_rules.specs.Ipv4.Headers.{word_at, header_length, total_length, checksum_in, header_of, options_of}
 use Rattle.wire_rules.specs.Ipv4.Checksums.{ones_sum, checksum_of, sealed}
 use Rattle.wire_rules.specs.Ipv4.Checks.{well_formed, header_checked}
 use Rattle.wire_rules.specs.Ipv4.Packets.{ttl_reply, walked, located, sealed_reply, passed_on, forwarded}
-use Rattle.wire_rules.specs.Ipv4.Marks.{Mark, marked, dropped, mark_reply, marked_packet}
+use Rattle.wire_rules.specs.Ipv4.Marks.{mark_reply, marked_packet}
+use Rattle.wire_rules.specs.declared.Marking.{Marking}
+use Rattle.wire_rules.specs.declared.Marking.TheVariants.{Marked, Dropped}
 use Rattle.wire_rules.specs.Ipv4.Views.{View, option_at, view, put_request, put}
 
 -- ---- the checksum
@@ -106,15 +107,15 @@ pub record Inside (place : ℕ) (packet : List ℕ) : Type 0 where
   pub len : get_or packet (suc place) 0 ≡ 8
 
 pub record Locating : Type 0 where
-  pub inside : (reach place : ℕ) (packet : List ℕ) → located reach packet ≡ answer (At place) → Inside place packet
+  pub inside : (reach place : ℕ) (packet : List ℕ) → located reach packet ≡ answer (Some place) → Inside place packet
   -- what the check refuses is refused; of any other packet the options area says what is located
   pub refused : (reach n : ℕ) (packet : List ℕ) → header_checked reach packet ≡ refuse n → located reach packet ≡ refuse n
-  pub complete : (reach h offset : ℕ) (packet : List ℕ) → header_checked reach packet ≡ answer h → Holds offset (options_of packet) → located reach packet ≡ answer (At (20 + offset))
-  pub none_complete : (reach h : ℕ) (packet : List ℕ) → header_checked reach packet ≡ answer h → Clear (options_of packet) → located reach packet ≡ answer Nowhere
+  pub complete : (reach h offset : ℕ) (packet : List ℕ) → header_checked reach packet ≡ answer h → Holds offset (options_of packet) → located reach packet ≡ answer (Some (20 + offset))
+  pub none_complete : (reach h : ℕ) (packet : List ℕ) → header_checked reach packet ≡ answer h → Clear (options_of packet) → located reach packet ≡ answer None
   pub fault_complete : (reach h n : ℕ) (packet : List ℕ) → header_checked reach packet ≡ answer h → Faulty n (options_of packet) → located reach packet ≡ refuse n
   -- and what is located is there
-  pub sound : (reach place : ℕ) (packet : List ℕ) → located reach packet ≡ answer (At place) → (offset : ℕ) × (place ≡ 20 + offset) × Holds offset (options_of packet)
-  pub none_sound : (reach : ℕ) (packet : List ℕ) → located reach packet ≡ answer Nowhere → Clear (options_of packet)
+  pub sound : (reach place : ℕ) (packet : List ℕ) → located reach packet ≡ answer (Some place) → (offset : ℕ) × (place ≡ 20 + offset) × Holds offset (options_of packet)
+  pub none_sound : (reach : ℕ) (packet : List ℕ) → located reach packet ≡ answer None → Clear (options_of packet)
   pub fault_sound : (reach n : ℕ) (packet : List ℕ) → located reach packet ≡ refuse n → (header_checked reach packet ≡ refuse n) ⊎ Faulty n (options_of packet)
 
 -- ---- the view
@@ -130,8 +131,8 @@ pub record RequestFits (r : Request) : Type 0 where
   pub nonce_fits : r.nonce < nonce_limit
 
 abbrev pub FitsWhere : Option Request → Type 0
-FitsWhere none = Unit {0}
-FitsWhere (some r) = RequestFits r
+FitsWhere None = Unit {0}
+FitsWhere (Some r) = RequestFits r
 
 pub record Fits (v : View) : Type 0 where
   pub ttl_small : v.ttl < 256
@@ -139,14 +140,14 @@ pub record Fits (v : View) : Type 0 where
 
 -- whether there is a request
 abbrev pub asks : Option Request → Bool
-asks none = false
-asks (some r) = true
+asks None = false
+asks (Some r) = true
 
 -- a place outside the six bytes behind the length of the option, if a request is written there
 abbrev pub OutsideRequest : Place → Option Request → ℕ → Type 0
-OutsideRequest (At place) (some r) i = (i < place + 2) ⊎ (place + 8 ≤ i)
-OutsideRequest (At place) none i = Unit {0}
-OutsideRequest Nowhere request i = Unit {0}
+OutsideRequest (Some place) (Some r) i = (i < place + 2) ⊎ (place + 8 ≤ i)
+OutsideRequest (Some place) None i = Unit {0}
+OutsideRequest None request i = Unit {0}
 
 -- what putting a view leaves of a packet without fault, whose option is at `place`
 pub record Changed (reach : ℕ) (packet : List ℕ) (place : Place) (new : View) : Type 0 where
@@ -160,19 +161,19 @@ pub record Changed (reach : ℕ) (packet : List ℕ) (place : Place) (new : View
   pub bytes : Bytes (put packet new)
   pub sealed_still : sealed (put packet new) ≡ put packet new
   -- reserved bits are "left by routers"
-  pub reserved : (o : ℕ) → place ≡ At o → reserved_in (option_at o (put packet new)) ≡ reserved_in (option_at o packet)
+  pub reserved : (o : ℕ) → place ≡ Some o → reserved_in (option_at o (put packet new)) ≡ reserved_in (option_at o packet)
 
 pub record Viewing : Type 0 where
   -- what a view shows: IP TTL and, of an option with function 0, its fields; of another option, or where there is none, no request; of a
   -- faulty packet, the refusal
-  pub shows : (reach place : ℕ) (packet : List ℕ) → located reach packet ≡ answer (At place) → get_or packet (place + 2) 0 / 16 ≡ 0
+  pub shows : (reach place : ℕ) (packet : List ℕ) → located reach packet ≡ answer (Some place) → get_or packet (place + 2) 0 / 16 ≡ 0
       → view reach packet ≡ answer (record {
         ttl = get_or packet 8 0;
-        request = some (record { rate = get_or packet (place + 2) 0 % 16; qs_ttl = get_or packet (place + 3) 0; nonce = nonce_at place packet });
+        request = Some (record { rate = get_or packet (place + 2) 0 % 16; qs_ttl = get_or packet (place + 3) 0; nonce = nonce_at place packet });
       })
-  pub shows_other : (reach place : ℕ) (packet : List ℕ) → located reach packet ≡ answer (At place) → (get_or packet (place + 2) 0 / 16 ≡ 0 → ⊥)
-      → view reach packet ≡ answer (record { ttl = get_or packet 8 0; request = none })
-  pub shows_none : (reach : ℕ) (packet : List ℕ) → located reach packet ≡ answer Nowhere → view reach packet ≡ answer (record { ttl = get_or packet 8 0; request = none })
+  pub shows_other : (reach place : ℕ) (packet : List ℕ) → located reach packet ≡ answer (Some place) → (get_or packet (place + 2) 0 / 16 ≡ 0 → ⊥)
+      → view reach packet ≡ answer (record { ttl = get_or packet 8 0; request = None })
+  pub shows_none : (reach : ℕ) (packet : List ℕ) → located reach packet ≡ answer None → view reach packet ≡ answer (record { ttl = get_or packet 8 0; request = None })
   pub refused : (reach n : ℕ) (packet : List ℕ) → located reach packet ≡ refuse n → view reach packet ≡ refuse n
   -- these are numbers that can be written
   pub fits : (reach : ℕ) (packet : List ℕ) (v : View) → Bytes packet → view reach packet ≡ answer v → Fits v
@@ -214,28 +215,28 @@ pub record Forwarding : Type 0 where
   pub options_still : (reach : ℕ) (packet new : List ℕ) → Bytes packet → passed_on reach packet ≡ answer new → located reach new ≡ walked packet
 
 -- a marking, by what it answers of a packet and the packet that it leaves
-pub record EcnMarking (reply : List ℕ → Reply Mark) (left : List ℕ → List ℕ) : Type 0 where
+pub record EcnMarking (reply : List ℕ → Reply Marking) (left : List ℕ → List ℕ) : Type 0 where
   -- by the two bits: 00 and 01 have ECT clear, 10 and 11 have it set
-  pub dropped_when : (h : ℕ) (packet : List ℕ) → header_checked (length packet) packet ≡ answer h → get_or packet 1 0 % 4 < 2 → reply packet ≡ answer dropped
-  pub marked_when : (h : ℕ) (packet : List ℕ) → header_checked (length packet) packet ≡ answer h → 2 ≤ get_or packet 1 0 % 4 → reply packet ≡ answer marked
+  pub dropped_when : (h : ℕ) (packet : List ℕ) → header_checked (length packet) packet ≡ answer h → get_or packet 1 0 % 4 < 2 → reply packet ≡ answer Dropped
+  pub marked_when : (h : ℕ) (packet : List ℕ) → header_checked (length packet) packet ≡ answer h → 2 ≤ get_or packet 1 0 % 4 → reply packet ≡ answer Marked
   pub refused_when : (n : ℕ) (packet : List ℕ) → header_checked (length packet) packet ≡ refuse n → reply packet ≡ refuse n
   -- no byte changes where the packet is to be dropped, or is refused
-  pub dropped_same : (packet : List ℕ) → reply packet ≡ answer dropped → left packet ≡ packet
+  pub dropped_same : (packet : List ℕ) → reply packet ≡ answer Dropped → left packet ≡ packet
   pub refused_same : (n : ℕ) (packet : List ℕ) → reply packet ≡ refuse n → left packet ≡ packet
   -- marking changes no byte but the second and the checksum
   pub others : (packet : List ℕ) (i : ℕ) → (i ≡ 1 → ⊥) → OutsideChecksum i → get_or (left packet) i 0 ≡ get_or packet i 0
   pub long : (packet : List ℕ) → length (left packet) ≡ length packet
   -- of the second byte it sets both ECN bits, and keeps the other six
-  pub bits : (packet : List ℕ) → reply packet ≡ answer marked → (get_or (left packet) 1 0 % 4 ≡ 3) × (get_or (left packet) 1 0 / 4 ≡ get_or packet 1 0 / 4)
+  pub bits : (packet : List ℕ) → reply packet ≡ answer Marked → (get_or (left packet) 1 0 % 4 ≡ 3) × (get_or (left packet) 1 0 / 4 ≡ get_or packet 1 0 / 4)
   -- "sets CE and the checksum": the checksum is the one that sealing writes, where CE was set before, too
-  pub written : (packet : List ℕ) → reply packet ≡ answer marked → sealed (left packet) ≡ left packet
+  pub written : (packet : List ℕ) → reply packet ≡ answer Marked → sealed (left packet) ≡ left packet
 
 -- ours has them, and whatever marks so is ours, in its answer and byte by byte
 abbrev pub MarkingTheorem : Type 0
 MarkingTheorem = EcnMarking mark_reply marked_packet
 
 abbrev pub MarkingOnly : Type 0
-MarkingOnly = (reply : List ℕ → Reply Mark) (left : List ℕ → List ℕ) → EcnMarking reply left → (packet : List ℕ) → (reply packet ≡ mark_reply packet) × (left packet ≡ marked_packet packet)
+MarkingOnly = (reply : List ℕ → Reply Marking) (left : List ℕ → List ℕ) → EcnMarking reply left → (packet : List ℕ) → (reply packet ≡ mark_reply packet) × (left packet ≡ marked_packet packet)
 
 -- what follows for ours
 pub record MarkedStill : Type 0 where

@@ -2,6 +2,8 @@
 use Rattle.std.specs.Prelude.{ℕ, ◌+◌, ◌*◌, ◌/◌, ◌%◌, Bool, List, eqb, length, get_or, set}
 use Rattle.common.specs.Choice.{pick}
 use Rattle.refusals.specs.Reply.{Reply, answer, refuse, and_then}
+use Rattle.wire_rules.specs.declared.Marking.{Marking}
+use Rattle.wire_rules.specs.declared.Marking.TheVariants.{Marked, Dropped}
 use Rattle.wire_rules.specs.Ipv4.Headers.{ecn_place}
 use Rattle.wire_rules.specs.Ipv4.Checksums.{sealed}
 use Rattle.wire_rules.specs.Ipv4.Checks.{header_checked}
@@ -13,19 +15,14 @@ ect_set byte = eqb (byte / 2 % 2) 1
 unfoldable pub with_ce : ℕ → ℕ
 with_ce byte = byte / 2 * 2 + 1
 
--- what marking decides
-pub data Mark : Type 0 where
-  marked : Mark
-  dropped : Mark
-
 -- "Marking with ECT set sets CE and the checksum; with ECT clear the answer is "drop""; of the refusals 1 and 2 alone
-abbrev pub mark_reply : List ℕ → Reply Mark
-mark_reply packet = and_then (header_checked (length packet) packet) (λ header. answer (pick (ect_set (get_or packet ecn_place 0)) marked dropped))
+abbrev pub mark_reply : List ℕ → Reply Marking
+mark_reply packet = and_then (header_checked (length packet) packet) (λ header. answer (pick (ect_set (get_or packet ecn_place 0)) Marked Dropped))
 
 -- the packet afterwards, by what was decided: "no byte changes" on a drop, and none on a refusal
-abbrev pub after_mark : List ℕ → Reply Mark → List ℕ
-after_mark packet (answer marked) = sealed (set packet ecn_place (with_ce (get_or packet ecn_place 0)))
-after_mark packet (answer dropped) = packet
+abbrev pub after_mark : List ℕ → Reply Marking → List ℕ
+after_mark packet (answer Marked) = sealed (set packet ecn_place (with_ce (get_or packet ecn_place 0)))
+after_mark packet (answer Dropped) = packet
 after_mark packet (refuse n) = packet
 
 abbrev pub marked_packet : List ℕ → List ℕ

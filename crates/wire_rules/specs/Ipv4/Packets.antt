@@ -3,9 +3,8 @@
 use Rattle.std.specs.Prelude.{ℕ, ◌+◌, ◌-◌, List, leb, set}
 use Rattle.common.specs.Choice.{pick}
 use Rattle.refusals.specs.Reply.{Reply, answer, refuse, and_then}
-use Rattle.wire_rules.specs.declared.Place.{Place}
-use Rattle.wire_rules.specs.declared.Place.TheVariants.{Nowhere, At}
-use Rattle.wire_rules.specs.Walk.Walks.{walk}
+use Rattle.std.specs.Prelude.{None, Some}
+use Rattle.wire_rules.specs.Walk.Walks.{walk, Place}
 use Rattle.wire_rules.specs.Ipv4.Headers.{options_place, ttl_place, ip_ttl, options_of}
 use Rattle.wire_rules.specs.Ipv4.Checksums.{sealed}
 use Rattle.wire_rules.specs.Ipv4.Checks.{well_formed, header_checked}
@@ -16,8 +15,8 @@ ttl_reply reach packet = pick (well_formed reach packet) (answer (ip_ttl packet)
 
 -- a place in the options area as a place in the packet
 abbrev pub in_packet : Place → Place
-in_packet Nowhere = Nowhere
-in_packet (At offset) = At (options_place + offset)
+in_packet None = None
+in_packet (Some offset) = Some (options_place + offset)
 
 -- what the walk of the packet's options area yields, by places in the packet
 abbrev pub walked : List ℕ → Reply Place

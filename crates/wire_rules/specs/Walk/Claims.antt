@@ -4,9 +4,8 @@
 use Rattle.std.specs.Prelude.{ℕ, suc, ◌+◌, ◌≤◌, ◌<◌, List, [], ◌∷◌, ◌++◌, ◌⊎◌, ◌≡◌, length, get_or}
 use Rattle.std.proofs.lemmas.List.Edits.{sets}
 use Rattle.refusals.specs.Reply.{Reply, answer, refuse}
-use Rattle.wire_rules.specs.declared.Place.{Place}
-use Rattle.wire_rules.specs.declared.Place.TheVariants.{Nowhere, At}
-use Rattle.wire_rules.specs.Walk.Walks.{look, go_on, walk}
+use Rattle.std.specs.Prelude.{None, Some}
+use Rattle.wire_rules.specs.Walk.Walks.{look, go_on, walk, Place}
 
 -- ---- what areas are made of
 
@@ -71,17 +70,17 @@ pub data Faulty : ℕ → List ℕ → Type 0 where
 
 -- whatever a walk yields, the area is made so (sound), and whatever an area is made of, the walk yields it (complete)
 pub record Walking (walk : List ℕ → Reply Place) : Type 0 where
-  pub sound : (area : List ℕ) (offset : ℕ) → walk area ≡ answer (At offset) → Holds offset area
-  pub complete : (area : List ℕ) (offset : ℕ) → Holds offset area → walk area ≡ answer (At offset)
-  pub none_sound : (area : List ℕ) → walk area ≡ answer Nowhere → Clear area
-  pub none_complete : (area : List ℕ) → Clear area → walk area ≡ answer Nowhere
+  pub sound : (area : List ℕ) (offset : ℕ) → walk area ≡ answer (Some offset) → Holds offset area
+  pub complete : (area : List ℕ) (offset : ℕ) → Holds offset area → walk area ≡ answer (Some offset)
+  pub none_sound : (area : List ℕ) → walk area ≡ answer None → Clear area
+  pub none_complete : (area : List ℕ) → Clear area → walk area ≡ answer None
   pub fault_sound : (area : List ℕ) (n : ℕ) → walk area ≡ refuse n → Faulty n area
   pub fault_complete : (area : List ℕ) (n : ℕ) → Faulty n area → walk area ≡ refuse n
   -- what is found is a type 25 of length 8 that lies wholly in the area
-  pub room : (area : List ℕ) (offset : ℕ) → walk area ≡ answer (At offset)
+  pub room : (area : List ℕ) (offset : ℕ) → walk area ≡ answer (Some offset)
       → (offset + 8 ≤ length area) × (get_or area offset 0 ≡ 25) × (get_or area (suc offset) 0 ≡ 8)
   -- place and faultlessness stay when the six bytes after the length are overwritten
-  pub steady : (area six : List ℕ) (offset : ℕ) → length six ≡ 6 → walk area ≡ answer (At offset) → walk (sets area (offset + 2) six) ≡ answer (At offset)
+  pub steady : (area six : List ℕ) (offset : ℕ) → length six ≡ 6 → walk area ≡ answer (Some offset) → walk (sets area (offset + 2) six) ≡ answer (Some offset)
 
 -- ours has them, and whatever walk has them is ours, on every area
 abbrev pub WalkingTheorem : Type 0
@@ -92,10 +91,10 @@ WalkingOnly = (other : List ℕ → Reply Place) → Walking other → (area : L
 
 -- two walks that fall short of them: one that answers none always, and one that looks at offset 0 only
 abbrev pub none_always : List ℕ → Reply Place
-none_always area = answer Nowhere
+none_always area = answer None
 
 abbrev pub first_only : List ℕ → Reply Place
-first_only area = go_on Nowhere (look Nowhere 0 area) (λ found len. answer found)
+first_only area = go_on None (look None 0 area) (λ found len. answer found)
 
 pub record ShutOut : Type 0 where
   pub none_always_lem : Walking none_always → ⊥

@@ -4,8 +4,11 @@ use Rattle.common.specs.Choice.{pick, within}
 use Rattle.refusals.specs.Reply.{Reply, answer, refuse}
 use Rattle.wire_rules.specs.Options.Wire.{option_length, kind_in, length_in}
 use Rattle.wire_rules.specs.Options.Requests.{request_kind}
-use Rattle.wire_rules.specs.declared.Place.{Place}
-use Rattle.wire_rules.specs.declared.Place.TheVariants.{Nowhere, At}
+use Rattle.std.specs.Prelude.{Option, None, Some}
+
+-- where a Quick-Start option stands, by the offset of its type, if there is one
+abbrev pub Place : Type 0
+Place = Option ℕ
 
 -- what one option means for the walk: it ends here, it is faulty, or it goes on with what has been found so far, past the option's bytes
 pub data Next : Type 0 where
@@ -27,8 +30,8 @@ length_fits left = within 2 (length_in left) (length left)
 
 -- a type 25 at an offset, after what was found before it: "type 25 with a length not 8, or a second type 25 (5)"
 abbrev pub quick_start : Place → ℕ → ℕ → Next
-quick_start Nowhere offset len = pick (eqb len option_length) (past (At offset) len) (fault 5)
-quick_start (At before) offset len = fault 5
+quick_start None offset len = pick (eqb len option_length) (past (Some offset) len) (fault 5)
+quick_start (Some before) offset len = fault 5
 
 -- "At each option a bad length is tested first (3)"
 unfoldable pub look : Place → ℕ → List ℕ → Next
@@ -53,4 +56,4 @@ walk_on place offset zero (b ∷ rest) = go_on place (look place offset (b ∷ r
 
 -- the offset of the area's one Quick-Start option, that there is none, or the fault
 abbrev pub walk : List ℕ → Reply Place
-walk area = walk_on Nowhere 0 0 area
+walk area = walk_on None 0 0 area

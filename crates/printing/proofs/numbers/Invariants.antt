@@ -1,6 +1,0 @@
--- `printing::numbers` ends: what is left of the row falls with each turn. Assumes nothing.
-use Rattle.std.proofs.Common.{◌-◌, length}
-use Rattle.printing.proofs.numbers.Given as goal
-
-abbrev pub decreases-loop-i : goal.decreases-loop-i
-decreases-loop-i g l = length l.row - l.i
