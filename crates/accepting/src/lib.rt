@@ -6,7 +6,7 @@ ghost use Rattle.std.specs.Prelude.{◌≡◌, ◌≤◌, ◌<◌};
 ghost use Rattle.wire_rules.specs.Rates.Steps.{top_code};
 ghost use Rattle.wire_rules.specs.Options.Wire.{nonce_limit};
 ghost use Rattle.refusals.specs.Replies.{told};
-ghost use Rattle.sender_rules.specs.Sender.Calls.{judged, sender_calls};
+ghost use Rattle.sender_rules.specs.Sender.Calls.{transport as transport_of, judged, sender_calls};
 
 use connection::is_in_range;
 use options::{OPTION_LENGTH, response};
@@ -43,8 +43,8 @@ pub fn take_response(
     response: &[u8],
     transport: Transport,
 ) -> Result<u32, Refusal>
-    ensures answer { told result ≡ (sender_calls.take_response connection.old response.now transport).said }
-    ensures record { connection.new ≡ (sender_calls.take_response connection.old response.now transport).left }
+    ensures answer { told result ≡ (sender_calls.take_response connection.old response.now (transport_of transport.rtt transport.mss transport.headers)).said }
+    ensures record { connection.new ≡ (sender_calls.take_response connection.old response.now (transport_of transport.rtt transport.mss transport.headers)).left }
 {
     if !is_in_range(*connection)
         || !transport_in_range(transport)

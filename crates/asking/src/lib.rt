@@ -4,7 +4,7 @@
 
 ghost use Rattle.std.specs.Prelude.{◌≡◌};
 ghost use Rattle.refusals.specs.Replies.{told};
-ghost use Rattle.sender_rules.specs.Sender.Calls.{ask_in_range, is_busy, is_soon, asked, sending, sender_calls};
+ghost use Rattle.sender_rules.specs.Sender.Calls.{ask_in_range, is_busy, is_soon, asked, wish as wish_of, sending, sender_calls};
 
 use connection::{is_before, is_in_range, with_last_request, with_state};
 use options::{NONCE_LIMIT, OPTION_LENGTH, request, response};
@@ -58,8 +58,8 @@ fn ask_opened(connection: Connection, wish: Wish) -> Connection
 // of the last one.
 #[tactic(auto, using(sender_rules::proofs::Sender::CallLaws::ask_sent))]
 pub fn ask(connection: &mut Connection, wish: Wish, request: &mut [u8]) -> Result<(), Refusal>
-    ensures answer { told result ≡ (sender_calls.ask connection.old wish request.old).said }
-    ensures record { sending connection.new request.new ≡ (sender_calls.ask connection.old wish request.old).left }
+    ensures answer { told result ≡ (sender_calls.ask connection.old (wish_of wish.code wish.ttl wish.qs_ttl wish.nonce wish.rtt wish.time) request.old).said }
+    ensures record { sending connection.new request.new ≡ (sender_calls.ask connection.old (wish_of wish.code wish.ttl wish.qs_ttl wish.nonce wish.rtt wish.time) request.old).left }
 {
     if !is_in_range(*connection) || !ask_in_range(wish, request.len()) {
         return Err(Refusal::OutOfRange);

@@ -142,11 +142,12 @@ pub fn places(rt: &impl Print, c: Connection) -> io::Result<()> {
 // A fresh record. Of one that is refused the line has the refusal alone.
 pub fn fresh(rt: &impl Print, window: u64, ssthresh: u64) -> io::Result<Connection> {
     print!(rt; "fresh {window} {ssthresh}: ")?;
-    match connection::fresh(window, ssthresh) {
-        Ok(c) => println!(rt; "ready{}", Record(c))?,
+    let opened = connection::fresh(window, ssthresh);
+    match opened.answer {
+        Ok(()) => println!(rt; "ready{}", Record(opened.connection))?,
         Err(why) => println!(rt; "{}", Refused(why))?,
     }
-    Ok(connection::fresh_record(window, ssthresh))
+    Ok(opened.connection)
 }
 
 // The end of a call's line.

@@ -27,6 +27,9 @@ module _ {A : Type 0} (P : A → Type 0) (a b : ℕ) {x y : A} where
 pub held : (r t : Bool) → r ≡ t → not r ≡ false → t ≡ true
 held r t e n = sym e ∙ not-false r n
 
+pub failed : (r t : Bool) → r ≡ t → not r ≡ true → t ≡ false
+failed r t e n = sym e ∙ not-true r n
+
 -- two constructors are never equal: an equation of theirs makes 0 and 1 equal, which `cc` finds
 pub clash : ◌≡◌ {A = ℕ} 0 1 → ⊥
 clash e = omega arith

@@ -1,14 +1,14 @@
 -- Laws of lists that know nothing of what the elements mean. Assumes nothing.
 use Prim.Native.Nat.{ℕ, zero, suc, ◌+◌, ◌-◌, ◌≤◌, ◌<◌}
 use mathlib.Core.Bool.{Bool, true, ◌&&◌}
-use mathlib.Core.List.{List, [], ◌∷◌, ◌++◌, append_assoc}
+use mathlib.Core.List.{List, [], ◌∷◌, ◌++◌, append_assoc, map}
 use mathlib.Core.Logic.{◌⊎◌, inl, inr}
 use mathlib.Core.Path.{◌≡◌, refl, ap, ap₂, sym, ◌∙◌}
 use native.Mathlib.Nat.{le_refl, sub-zero, zero-sub, suc-sub-suc}
 use native.Mathlib.Omega.{arith}
 use lib.Dec.{lit<, ltb}
 use borrow.Author.Tests.{ltb-true}
-use lib.ListN.{length, get_or, set, take, drop, replicate, length-append, length-drop, take-append-drop, drop_of_length-le}
+use lib.ListN.{length-map, length, get_or, set, take, drop, replicate, length-append, length-drop, take-append-drop, drop_of_length-le}
 use lib.Seq.{set_comm, take-nil, take_all, take-add, take-set-lt, drop-cons, drop_at, drop-set-add, get_or-drop, get_or-set_other, set-get_or, length-take-le, take-append_seam, drop-append-add, sets, sets-eq}
 use Rattle.common.specs.Lists.{Bytes}
 use Rattle.common.proofs.Choice.{both_true}
@@ -36,6 +36,15 @@ drop-take (suc i) (suc k) (x ∷ l) = drop-take i k l ∙ ap (λ (n : ℕ). take
 -- all that is left of a list from a place on
 pub take_rest : (i : ℕ) (l : List ℕ) → take (length l - i) (drop i l) ≡ drop i l
 take_rest i l = take_all (length l - i) (drop i l) (rw (length-drop i l) (le_refl (length l - i)))
+
+-- a part that is not empty is its first element and the rest of it
+pub part_cons : {A : Type 0} (l : List A) (i n : ℕ) (d : A) → i < n → n ≤ length l → take (n - i) (drop i l) ≡ get_or l i d ∷ take (n - suc i) (drop (suc i) l)
+part_cons l i n d h k =
+    ap (take (n - i)) (drop-cons l i d (omega arith)) ∙ ap (λ (m : ℕ). take m (get_or l i d ∷ drop (suc i) l)) {x = n - i} {y = suc (n - suc i)} (omega arith)
+
+-- a list is as long as what its elements are made into; of a field that is an array of structs the checker tells the latter's length
+pub length_mapped : (X Y : Type 0) (f : X → Y) (l : List X) (n : ℕ) → length (map f l) ≡ n → length l ≡ n
+length_mapped X Y f l n e = sym (length-map l f) ∙ e
 
 -- ---- zeros
 

@@ -5,7 +5,6 @@
 ghost use Rattle.std.specs.Prelude.{◌≡◌, ◌≤◌, min, max, leb};
 ghost use Rattle.std.specs.List.{list_all};
 ghost use Rattle.refusals.specs.Replies.{told};
-ghost use Rattle.refusals.specs.Reply.{answer, and_then};
 ghost use Rattle.sender_rules.specs.Congestion.Echoes.{halved};
 ghost use Rattle.sender_rules.specs.Congestion.Phases.{is_early};
 ghost use Rattle.sender_rules.specs.Connections.Records.{most_bytes, is_before, state_in_range, in_range, fresh_with, fresh_reply, with_state, with_last_request, with_mark, with_period};
@@ -91,16 +90,27 @@ pub fn fresh_record(window: u64, ssthresh: u64) -> Connection
     }
 }
 
-// The fresh record of numbers that are in their ranges.
+// What the making of a record answers, and the record of the numbers given, which stands beside a refusal too.
+#[derive(Clone, Copy)]
+pub struct Opened {
+    pub answer: Result<(), Refusal>,
+    pub connection: Connection,
+}
+
+// The fresh record of two numbers, and whether they are in their ranges. A record that is refused is out of range, so every
+// call refuses it: whoever overlooks the refusal does not go on with another window than the one asked for.
 #[tactic(auto, using(sender_rules::proofs::Connections::RecordLaws::fresh_ranges))]
-pub fn fresh(window: u64, ssthresh: u64) -> Result<Connection, Refusal>
-    ensures { told result ≡ and_then (fresh_reply window ssthresh) (λ done. answer (fresh_with window ssthresh)) }
+pub fn fresh(window: u64, ssthresh: u64) -> Opened
+    ensures answer { told result.answer ≡ fresh_reply window ssthresh }
+    ensures record { result.connection ≡ fresh_with window ssthresh }
 {
     let connection = fresh_record(window, ssthresh);
-    if !is_in_range(connection) {
-        return Err(Refusal::OutOfRange);
-    }
-    Ok(connection)
+    let answer = if is_in_range(connection) {
+        Ok(())
+    } else {
+        Err(Refusal::OutOfRange)
+    };
+    Opened { answer, connection }
 }
 
 // A record with another state, the rest as it was.
@@ -123,7 +133,7 @@ pub fn with_last_request(connection: Connection, last_request: Option<u64>) -> C
     }
 }
 
-// A record with another mark. Public and named in docs/PROMISES.md, as is the next; `echo` and `phase` update by themselves.
+// A record with another mark.
 pub fn with_mark(connection: Connection, mark: Option<u32>) -> Connection
     ensures { result ≡ with_mark connection mark }
 {

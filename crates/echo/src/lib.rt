@@ -7,7 +7,7 @@ ghost use Rattle.refusals.specs.Replies.{told};
 ghost use Rattle.sender_rules.specs.Congestion.Echoes.{is_ahead, reacted};
 ghost use Rattle.sender_rules.specs.Congestion.Calls.{congestion_calls};
 
-use connection::{halved_down_to, is_in_range};
+use connection::{halved_down_to, is_in_range, with_mark};
 use rates::LARGEST_SEGMENT;
 use refusals::{Refusal, in_range};
 use sender_rules::Connection;
@@ -31,8 +31,7 @@ fn react(connection: Connection, highest: u32, mss: u64) -> Connection
     Connection {
         window,
         ssthresh: window,
-        mark: Some(highest),
-        ..connection
+        ..with_mark(connection, Some(highest))
     }
 }
 

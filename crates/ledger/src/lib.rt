@@ -75,7 +75,7 @@ fn bits_of(code: u32) -> u64
     requires { code ≤ top_code }
     ensures { result ≡ rate_of code }
 {
-    rate_of(code).unwrap()
+    rate_of(code).unwrap_or(0)
 }
 
 // The greatest code up to `asked` whose rate is at most `left`.
@@ -129,7 +129,7 @@ fn approve(row: &mut [u64], ledger: Ledger, asked: u32) -> u32
     ensures code { result ≡ grant_of (lent row.old ledger) asked }
     ensures row { row.new ≡ charged ledger.tick (rate_of (grant_of (lent row.old ledger) asked)) row.old }
 {
-    let left = left_of(row, ledger.allowance).unwrap();
+    let left = left_of(row, ledger.allowance).unwrap_or(0);
     let code = greatest_code(asked, left);
     charge(row, ledger.tick, bits_of(code));
     code

@@ -6,7 +6,7 @@
 ghost use Rattle.std.specs.Prelude.{◌≡◌};
 ghost use Rattle.refusals.specs.Reply.{answer, leaves, done};
 ghost use Rattle.refusals.specs.Replies.{told};
-ghost use Rattle.sender_rules.specs.Sender.Calls.{while_asked};
+ghost use Rattle.sender_rules.specs.Sender.Calls.{transport as transport_of, while_asked};
 ghost use Rattle.path_rules.specs.Hops.Rows.{most_routers, hops_from};
 ghost use Rattle.hops.specs.Replies.{verdict_told, verdict_reply_told};
 ghost use Rattle.path_rules.specs.Path.Runs.{hop as one_hop, path_calls, concluded, run_by, ran, journey, run_in_range, start_reply, run_call};
@@ -83,7 +83,7 @@ fn conclude(
     ceiling: u32,
     transport: Transport,
 ) -> Verdict
-    ensures { ran (verdict_told result) packet.now connection.new ≡ concluded path_calls connection.old transport packet.now (path_calls.receive ceiling packet.now) }
+    ensures { ran (verdict_told result) packet.now connection.new ≡ concluded path_calls connection.old (transport_of transport.rtt transport.mss transport.headers) packet.now (path_calls.receive ceiling packet.now) }
 {
     let mut response = [0; 8];
     match receiver(packet, ceiling, &mut response) {
@@ -105,7 +105,7 @@ fn run_through(
     ceiling: u32,
     transport: Transport,
 ) -> Verdict
-    ensures { ran (verdict_told result) packet.new connection.new ≡ run_by path_calls connection.old transport ceiling (hops_from most_routers row.now).routers packet.old }
+    ensures { ran (verdict_told result) packet.new connection.new ≡ run_by path_calls connection.old (transport_of transport.rtt transport.mss transport.headers) ceiling (hops_from most_routers row.now).routers packet.old }
 {
     if travel(packet, row).is_err() {
         return Verdict::Lost;
@@ -118,7 +118,7 @@ fn run_through(
 // Whether the numbers of a run, its record among them, are in their ranges.
 #[tactic(auto, unfolding(path_rules::specs::Path::Runs::run_in_range))]
 fn run_in_range(connection: Connection, ceiling: u32, transport: Transport) -> bool
-    ensures { result ≡ run_in_range connection ceiling transport }
+    ensures { result ≡ run_in_range connection ceiling (transport_of transport.rtt transport.mss transport.headers) }
 {
     ceiling <= TOP_CODE && transport_in_range(transport) && is_in_range(connection)
 }
@@ -153,8 +153,8 @@ pub fn run(
     ceiling: u32,
     transport: Transport,
 ) -> Result<Verdict, Refusal>
-    ensures answer { verdict_reply_told result ≡ (run_call most_routers connection.old packet.old row.now ceiling transport).said }
-    ensures left { journey packet.new connection.new ≡ (run_call most_routers connection.old packet.old row.now ceiling transport).left }
+    ensures answer { verdict_reply_told result ≡ (run_call most_routers connection.old packet.old row.now ceiling (transport_of transport.rtt transport.mss transport.headers)).said }
+    ensures left { journey packet.new connection.new ≡ (run_call most_routers connection.old packet.old row.now ceiling (transport_of transport.rtt transport.mss transport.headers)).left }
 {
     if survey(row).end != row.len() || !run_in_range(*connection, ceiling, transport) {
         return Err(Refusal::OutOfRange);

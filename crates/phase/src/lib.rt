@@ -11,7 +11,7 @@ ghost use Rattle.sender_rules.specs.Connections.Records.{most_bytes, most_sample
 ghost use Rattle.sender_rules.specs.Congestion.Phases.{is_recent, validated, is_validated, is_over, adjusted, run_on, phase_in_range};
 ghost use Rattle.sender_rules.specs.Congestion.Calls.{congestion_calls};
 
-use connection::{halved_down_to, is_early, is_in_range};
+use connection::{halved_down_to, is_early, is_in_range, with_period};
 use rates::LONGEST_RTT;
 use refusals::{Refusal, in_range};
 use sender_rules::{Connection, Sample};
@@ -83,16 +83,9 @@ fn run_on(connection: Connection, initial_window: u64, time: u64) -> Connection
     ensures { result ≡ run_on initial_window time connection }
 {
     if is_over(connection.period, time) {
-        let adjusted = adjust(connection, initial_window);
-        return Connection {
-            period: Some(time),
-            ..adjusted
-        };
+        return with_period(adjust(connection, initial_window), Some(time));
     }
-    Connection {
-        period: connection.period.or(Some(time)),
-        ..connection
-    }
+    with_period(connection, connection.period.or(Some(time)))
 }
 
 // Whether the round trip and the initial window are in their ranges.
@@ -134,7 +127,7 @@ pub fn phase(
         return Err(Refusal::TimeBackwards);
     }
     if judge(connection, rtt, time) {
-        connection.period = None;
+        *connection = with_period(*connection, None);
         return Ok(true);
     }
     *connection = run_on(*connection, initial_window, time);

@@ -126,14 +126,14 @@ module _ (reach : ℕ) (packet : List ℕ) (b : Bytes packet) (lives : 1 < ip_tt
       by_decision o r (decided ceiling fresh r) l s (decided_fits ceiling fresh r f)
 
 -- what a router does to a packet that it met is its decision put into the view
-sent : (reach ceiling fresh : ℕ) (packet : List ℕ) (asking : Asking) → Bytes packet → met reach packet ≡ answer asking
+pub sent : (reach ceiling fresh : ℕ) (packet : List ℕ) (asking : Asking) → Bytes packet → met reach packet ≡ answer asking
     → passed_on reach (decision_written ceiling fresh asking packet) ≡ answer (put packet (routed_view ceiling fresh (met_view packet asking)))
 sent reach ceiling fresh packet asking b e =
     let m = met_at reach packet asking e in
     subst (λ (a : Asking). passed_on reach (decision_written ceiling fresh a packet) ≡ answer (put packet (routed_view ceiling fresh (met_view packet a)))) m.asks_for
     (by_place reach packet b m.lives ceiling fresh m.place (request_at m.place packet) m.located_at refl)
 
-written_long : (ceiling fresh : ℕ) (asking : Asking) (packet : List ℕ) → length (decision_written ceiling fresh asking packet) ≡ length packet
+pub written_long : (ceiling fresh : ℕ) (asking : Asking) (packet : List ℕ) → length (decision_written ceiling fresh asking packet) ≡ length packet
 written_long ceiling fresh None packet = refl
 written_long ceiling fresh (Some (place, r)) packet = go (written_by (decided ceiling fresh r))
   where

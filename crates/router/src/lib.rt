@@ -55,7 +55,9 @@ fn decide(request: Request, ceiling: u32, fresh: u32) -> Decision
     if rate == 0 {
         return Decision::Denied;
     }
-    let nonce = after_lowering(request.rate, rate, request.nonce, fresh).unwrap();
+    let Ok(nonce) = after_lowering(request.rate, rate, request.nonce, fresh) else {
+        return Decision::Denied;
+    };
     Decision::Approved(Request {
         rate,
         qs_ttl: request.qs_ttl.wrapping_sub(1),
@@ -103,7 +105,7 @@ fn send_on(packet: &mut [u8], asking: Option<(usize, Request)>, ceiling: u32, fr
     ensures { packet.new ≡ put packet.old (routed_view ceiling fresh (met_view packet.old asking)) }
 {
     answer_request(packet, asking, ceiling, fresh);
-    pass_on(packet).unwrap();
+    let _ = pass_on(packet);
 }
 
 // Looks at a packet, and tests that its IP TTL lets it be passed on: what it asks for then. The request is copied field by

@@ -2,7 +2,7 @@
 // crate `hops` reads; then the call on bytes answers. Nothing is allocated: a row of 64 hops has its room on the stack.
 #![tactic(auto)]
 
-ghost use Rattle.std.specs.Prelude.{◌≡◌, ◌≤◌, ◌<◌, ◌++◌};
+ghost use Rattle.std.specs.Prelude.{◌≡◌, [], ◌≤◌, ◌<◌, ◌++◌};
 ghost use Rattle.arrayvec.specs.ArrayVec.{array_vec_len};
 ghost use Rattle.refusals.specs.Reply.{answer, leaves, done, and_then};
 ghost use Rattle.refusals.specs.Replies.{told};
@@ -10,6 +10,7 @@ ghost use Rattle.wire_rules.specs.Rates.Steps.{top_code};
 ghost use Rattle.wire_rules.specs.Options.Wire.{nonce_limit};
 ghost use Rattle.path_rules.specs.Hops.Rows.{most_routers, record_of};
 ghost use Rattle.hops.specs.Replies.{verdict_reply_told};
+ghost use Rattle.sender_rules.specs.Sender.Calls.{transport as transport_of};
 ghost use Rattle.path_rules.specs.Path.Runs.{journey};
 ghost use Rattle.path_rules.specs.Path.OwnSender.{own_transport};
 ghost use Rattle.path_rules.specs.Rows.Rows.{router_of, hop_in_range, hops_summary, hops_call};
@@ -48,28 +49,29 @@ fn put_hop(records: &mut ArrayVec<u8, ROOM>, hop: Hop)
     if hop.knows {
         let [a, b, c, d] = (hop.fresh * 4).to_be_bytes();
         let record = [KNOWING, hop.ceiling as u8, a, b, c, d];
-        records.try_extend_from_slice(&record).unwrap();
+        let _ = records.try_extend_from_slice(&record);
     } else {
         records.push(SILENT);
     }
 }
 
-// The records of a row's hops, one behind the other, where the hops are a row: 64 at most, each in range.
+// Puts the records of a row's hops into an empty room, one behind the other, where the hops are a row: 64 at most, each in
+// range. The room is lent: handed out in the Result it was copied twice (docs/PERFORMANCE.md).
 #[tactic(auto, using(crate::proofs::SpellLaws::begins, crate::proofs::SpellLaws::ends, crate::proofs::SpellLaws::not_taken, path_rules::proofs::Rows::RangeLaws::in_range_lem), unfolding(crate::specs::Parts::spelt))]
-fn spell(row: &[Hop]) -> Result<ArrayVec<u8, ROOM>, Refusal>
-    ensures { and_then (told result) (λ records. answer records.items) ≡ spelt row.now }
+fn spell(row: &[Hop], records: &mut ArrayVec<u8, ROOM>) -> Result<(), Refusal>
+    requires { records.old.items ≡ [] }
+    ensures { and_then (told result) (λ done. answer records.new.items) ≡ spelt row.now }
 {
     if row.len() > MOST_ROUTERS as usize {
         return Err(Refusal::OutOfRange);
     }
-    let mut records = ArrayVec::new();
     for hop in row {
         if !hop_in_range(*hop) {
             return Err(Refusal::OutOfRange);
         }
-        put_hop(&mut records, *hop);
+        put_hop(records, *hop);
     }
-    Ok(records)
+    Ok(())
 }
 
 // ---- the calls over a row of hops
@@ -79,7 +81,8 @@ fn spell(row: &[Hop]) -> Result<ArrayVec<u8, ROOM>, Refusal>
 pub fn summarize_hops(row: &[Hop]) -> Result<Summary, Refusal>
     ensures { told result ≡ hops_summary most_routers row.now }
 {
-    let records = spell(row)?;
+    let mut records = ArrayVec::new();
+    spell(row, &mut records)?;
     summarize(records.as_slice())
 }
 
@@ -93,10 +96,11 @@ pub fn run_hops(
     ceiling: u32,
     transport: Transport,
 ) -> Result<Verdict, Refusal>
-    ensures answer { verdict_reply_told result ≡ (hops_call most_routers connection.old packet.old row.now ceiling transport).said }
-    ensures left { journey packet.new connection.new ≡ (hops_call most_routers connection.old packet.old row.now ceiling transport).left }
+    ensures answer { verdict_reply_told result ≡ (hops_call most_routers connection.old packet.old row.now ceiling (transport_of transport.rtt transport.mss transport.headers)).said }
+    ensures left { journey packet.new connection.new ≡ (hops_call most_routers connection.old packet.old row.now ceiling (transport_of transport.rtt transport.mss transport.headers)).left }
 {
-    let records = spell(row)?;
+    let mut records = ArrayVec::new();
+    spell(row, &mut records)?;
     run(connection, packet, records.as_slice(), ceiling, transport)
 }
 

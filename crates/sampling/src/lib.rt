@@ -5,7 +5,7 @@
 ghost use Rattle.std.specs.Prelude.{◌≡◌, ◌≤◌};
 ghost use Rattle.refusals.specs.Replies.{told};
 ghost use Rattle.sender_rules.specs.Connections.Records.{most_samples};
-ghost use Rattle.sender_rules.specs.Congestion.Phases.{sampled};
+ghost use Rattle.sender_rules.specs.Congestion.Phases.{sample_of, sampled};
 ghost use Rattle.sender_rules.specs.Congestion.Calls.{congestion_calls};
 
 use connection::{MOST_BYTES, MOST_SAMPLES, is_early, is_in_range};
@@ -28,8 +28,8 @@ fn add(connection: Connection, sample: Sample) -> Connection
 // Adds a sample: the bytes that were acknowledged in a round trip, and the time.
 #[tactic(auto, using(connection::proofs::RangeLaws::ranges))]
 pub fn sample(connection: &mut Connection, sample: Sample) -> Result<(), Refusal>
-    ensures answer { told result ≡ (congestion_calls.sample connection.old sample).said }
-    ensures record { connection.new ≡ (congestion_calls.sample connection.old sample).left }
+    ensures answer { told result ≡ (congestion_calls.sample connection.old (sample_of sample.time sample.bytes)).said }
+    ensures record { connection.new ≡ (congestion_calls.sample connection.old (sample_of sample.time sample.bytes)).left }
 {
     if !is_in_range(*connection) || sample.bytes > MOST_BYTES {
         return Err(Refusal::OutOfRange);

@@ -1,17 +1,24 @@
 -- Laws of a walk that is made step by step: at an area's end, at its last byte, at a fault, past an option. Assumes nothing.
 use Prim.Native.Nat.{ℕ, suc, ◌+◌, ◌-◌, ◌≤◌, ◌<◌}
+use mathlib.Core.Bool.{false}
 use mathlib.Core.List.{List}
-use mathlib.Core.Path.{◌≡◌, sym, ap, ◌∙◌}
+use mathlib.Core.Path.{◌≡◌, refl, sym, ap, ◌∙◌}
 use native.Mathlib.Omega.{arith}
-use lib.ListN.{length, take, drop, length-drop, drop_of_length-le}
+use lib.ListN.{length, take, drop, length-drop, drop_of_length-le, get_or-eq_default}
 use lib.Seq.{drop-drop}
 use Rattle.refusals.specs.Reply.{answer, refuse}
 use Rattle.std.specs.Prelude.{Option, Some, Ok}
+use Rattle.common.specs.Choice.{within}
 use Rattle.walk.specs.declared.Past.{Past}
 use Rattle.walk.specs.Parts.{next_told}
 use Rattle.common.proofs.Lists.{take_rest}
-use Rattle.wire_rules.specs.Walk.Walks.{Next, end, fault, past, look, go_on, walk_on, walk, Place}
+use Rattle.wire_rules.specs.Walk.Walks.{Next, end, fault, past, length_fits, look, go_on, walk_on, walk, Place}
 use Rattle.wire_rules.proofs.Walk.WalkLaws.{step, past_fits, goes_past}
+
+-- with less than two bytes left no length fits: the length byte is missing, and reads as 0
+pub no_room : (left : List ℕ) → length left < 2 → length_fits left ≡ false
+unfolding length_fits within
+no_room left h = rw (get_or-eq_default left 0 {n = 1} (omega arith)) refl
 
 -- ---- the walk of a whole area, from an offset on: what it yields there is what it yields in all
 

@@ -8,8 +8,8 @@ use Rattle.hops.proofs.VerdictLaws.{verdict_handed_up}
 use Rattle.rows.proofs.SpellLaws.{no_row}
 use Rattle.rows.proofs.run_hops.Goals as goal
 
-pub returns-in_err-records-clause-answer : goal.returns-in_err-records-clause-answer
-returns-in_err-records-clause-answer c =
+pub returns-in_err-spell-clause-answer : goal.returns-in_err-spell-clause-answer
+returns-in_err-spell-clause-answer c =
     let a = c.args in
     verdict_handed_up _ _ c.from_residual.ensures
-    ∙ ap (λ (row : Reply (List Router)). (call_over row a.connection.now a.packet.now a.ceiling a.transport).said) (no_row a.row.now _ c.in_err-records.ensures)
+    ∙ ap (λ (row : Reply (List Router)). (call_over row a.connection.now a.packet.now a.ceiling a.transport).said) (no_row a.row.now _ c.in_err-spell.ensures)

@@ -76,6 +76,6 @@ pub record Fresh : Type 0 where
   -- "window 1 to 2^40", ssthresh "at most 2^40"
   pub made : (window ssthresh : ℕ) → 1 ≤ window → window ≤ 1099511627776 → ssthresh ≤ 1099511627776 → fresh_reply window ssthresh ≡ answer tt
   pub seven : (window ssthresh : ℕ) → ((1 ≤ window) × (window ≤ 1099511627776) × (ssthresh ≤ 1099511627776) → ⊥) → fresh_reply window ssthresh ≡ refuse 7
-  -- a record that was made is in range; the record of numbers that are refused is not, so that every call refuses it with 7
+  -- a record that was made is in range; what is handed back beside a refusal is not, so that every call refuses it with 7
   pub in_range_lem : (window ssthresh : ℕ) → fresh_reply window ssthresh ≡ answer tt → InRange (fresh_with window ssthresh)
   pub unusable : (window ssthresh n : ℕ) → fresh_reply window ssthresh ≡ refuse n → in_range (fresh_with window ssthresh) ≡ false
